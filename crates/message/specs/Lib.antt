@@ -1,0 +1,2 @@
+-- What a command byte means.
+pub mod Meaning

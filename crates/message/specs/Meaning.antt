@@ -1,0 +1,62 @@
+-- The table of 256 meanings.
+-- Assumes nothing.
+use Prim.Native.Nat.{ℕ, _-_, _%_}
+use mathlib.Core.Bool.{Bool, true, false, cond}
+use lib.Dec.{ltb, eqb}
+use Rattle.message.specs.declared.Address.{Address}
+use Rattle.message.specs.declared.Meaning.{Meaning}
+use Rattle.message.specs.declared.Meaning.the-variants.{Other, Listen, Unlisten, Talk, Untalk, Sdc, Get, Tct, Dcl, Spe, Spd}
+
+abbrev pub address : ℕ → Address
+address a = record { 0 = a }
+
+-- "04 SDC, 08 GET, 09 TCT, 14 DCL, 18 SPE, 19 SPD; all else no meaning"
+unfoldable pub named : ℕ → Meaning
+named n =
+    cond (eqb n 0x04) Sdc
+    (cond (eqb n 0x08) Get
+    (cond (eqb n 0x09) Tct
+    (cond (eqb n 0x14) Dcl
+    (cond (eqb n 0x18) Spe
+    (cond (eqb n 0x19) Spd Other)))))
+
+-- "20+a listen address, 3F UNL, 40+a talk address, 5F UNT (a in 0..1E)"
+unfoldable pub sevenBits : ℕ → Meaning
+sevenBits n =
+    cond (ltb n 0x20) (named n)
+    (cond (ltb n 0x3f) (Listen (address (n - 0x20)))
+    (cond (eqb n 0x3f) Unlisten
+    (cond (ltb n 0x5f) (Talk (address (n - 0x40)))
+    (cond (eqb n 0x5f) Untalk Other))))
+
+-- "hexadecimal: entry b is entry b mod 80"
+unfoldable pub meaning : ℕ → Meaning
+meaning b = sevenBits (b % 0x80)
+
+-- The code that stands for a meaning in the constant table.
+abbrev pub codeOf : Meaning → ℕ
+codeOf Other = 0
+codeOf (Listen a) = 1
+codeOf Unlisten = 2
+codeOf (Talk a) = 3
+codeOf Untalk = 4
+codeOf Sdc = 5
+codeOf Get = 6
+codeOf Tct = 7
+codeOf Dcl = 8
+codeOf Spe = 9
+codeOf Spd = 10
+
+-- The meaning of a code, with the address that the byte carries.
+unfoldable pub decode : ℕ → Address → Meaning
+decode c a =
+    cond (eqb c 1) (Listen a)
+    (cond (eqb c 2) Unlisten
+    (cond (eqb c 3) (Talk a)
+    (cond (eqb c 4) Untalk
+    (cond (eqb c 5) Sdc
+    (cond (eqb c 6) Get
+    (cond (eqb c 7) Tct
+    (cond (eqb c 8) Dcl
+    (cond (eqb c 9) Spe
+    (cond (eqb c 10) Spd Other)))))))))

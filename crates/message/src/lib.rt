@@ -1,0 +1,58 @@
+// Command bytes and what they mean: document 01's table of 256 meanings.
+ghost use mathlib.Core.Path.{_≡_};
+ghost use Rattle.message.specs.Meaning.{codeOf, decode, meaning};
+
+pub mod table;
+
+// A primary address. Document 01: "a party's place and its address are separate kinds of number".
+pub struct Address(pub u8);
+
+// What a command byte means to who hears it.
+pub enum Meaning {
+    // All else: no meaning.
+    Other,
+    Listen(Address),
+    Unlisten,
+    Talk(Address),
+    Untalk,
+    Sdc,
+    Get,
+    Tct,
+    Dcl,
+    Spe,
+    Spd,
+}
+
+// The table's entry of a byte.
+pub fn code_of(byte: u8) -> u8
+    ensures { λ r. ⌜ r ≡ codeOf (meaning byte) ⌝ }
+{
+    let i = byte as usize;
+    table::CODES[i]
+}
+
+// What a byte with this code means, if its low five bits are the address.
+fn decoded(code: u8, address: Address) -> Meaning
+    ensures { λ r. ⌜ r ≡ decode code address ⌝ }
+{
+    match code {
+        1 => Meaning::Listen(address),
+        2 => Meaning::Unlisten,
+        3 => Meaning::Talk(address),
+        4 => Meaning::Untalk,
+        5 => Meaning::Sdc,
+        6 => Meaning::Get,
+        7 => Meaning::Tct,
+        8 => Meaning::Dcl,
+        9 => Meaning::Spe,
+        10 => Meaning::Spd,
+        _ => Meaning::Other,
+    }
+}
+
+// The meaning of a command byte.
+pub fn meaning_of(byte: u8) -> Meaning
+    ensures { λ r. ⌜ r ≡ meaning byte ⌝ }
+{
+    decoded(code_of(byte), Address(byte % 32))
+}

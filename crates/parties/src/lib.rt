@@ -1,0 +1,54 @@
+// The parties of a bus together: the lines that they drive.
+ghost use mathlib.Core.Path.{_≡_};
+ghost use Prim.Native.Nat.{_*_, _≤_};
+ghost use Rattle.party.specs.Parts.{one};
+ghost use Rattle.parties.specs.Lines.{linesByte};
+use party::Party;
+use party::Place;
+
+// The six lines of the bus, true where driven.
+pub struct Lines {
+    pub atn: bool,
+    pub dav: bool,
+    pub nrfd: bool,
+    pub ndac: bool,
+    pub eoi: bool,
+    pub srq: bool,
+}
+
+// The place of a party that was looked for.
+pub enum Found {
+    Nowhere,
+    At(Place),
+}
+
+// The weight of a line in the lines answer.
+fn bit(on: bool, weight: u8) -> u8
+    ensures { λ r. ⌜ (r ≡ weight * one on) × (r ≤ weight) ⌝ }
+{
+    if on { weight } else { 0 }
+}
+
+impl Lines {
+    // Nobody drives a line.
+    pub const NONE: Lines = Lines {
+        atn: false,
+        dav: false,
+        nrfd: false,
+        ndac: false,
+        eoi: false,
+        srq: false,
+    };
+
+    // The lines answer.
+    pub fn byte(self) -> u8
+        ensures { λ r. ⌜ r ≡ linesByte self ⌝ }
+    {
+        bit(self.atn, 128)
+            + bit(self.dav, 64)
+            + bit(self.ndac, 32)
+            + bit(self.nrfd, 16)
+            + bit(self.eoi, 8)
+            + bit(self.srq, 4)
+    }
+}

@@ -1,0 +1,24 @@
+use borrow.Author.Needs.{needs}
+use Rattle.party.proofs.Party.after_put.Statement.{statement}
+use Rattle.party.proofs.Party.after_put.Tie as tie
+
+spends-requires : tie.Need-spends-requires
+spends-requires c κs = search needs
+
+with-held-requires : tie.Need-with-held-requires
+with-held-requires c κs = search needs
+
+with-source-requires : tie.Need-with-source-requires
+with-source-requires c κs = search needs
+
+returns : tie.Need-returns
+returns c =
+    simp (
+      c .with-source .ensures,
+      c .before .with-held .ensures,
+      c .before .before .spends .ensures,
+    )
+
+pub after-put-spec : {M : Type 1} → statement M
+after-put-spec =
+    tie.close (tie.spec spends-requires with-held-requires with-source-requires returns)

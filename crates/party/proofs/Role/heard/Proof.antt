@@ -1,0 +1,158 @@
+use borrow.Author.Needs.{needs}
+use Rattle.party.proofs.Role.heard.Statement.{statement}
+use Rattle.party.proofs.Role.heard.Tie as tie
+
+enum-told : tie.Need-enum-told
+enum-told c = search needs
+
+enum-known-m : tie.Need-enum-known-m
+enum-known-m c = search needs
+
+owns-requires : tie.Need-owns-requires
+owns-requires c κs = search needs
+
+heard-listen-requires : tie.Need-heard-listen-requires
+heard-listen-requires c κs = search needs
+
+enum-told-2 : tie.Need-enum-told-2
+enum-told-2 c = search needs
+
+with-flags-requires : tie.Need-with-flags-requires
+with-flags-requires c κs = search needs
+
+enum-known-m-2 : tie.Need-enum-known-m-2
+enum-known-m-2 c = search needs
+
+owns-requires-2 : tie.Need-owns-requires-2
+owns-requires-2 c κs = search needs
+
+heard-talk-requires : tie.Need-heard-talk-requires
+heard-talk-requires c κs = search needs
+
+enum-told-3 : tie.Need-enum-told-3
+enum-told-3 c = search needs
+
+with-flags-requires-2 : tie.Need-with-flags-requires-2
+with-flags-requires-2 c κs = search needs
+
+enum-told-4 : tie.Need-enum-told-4
+enum-told-4 c = search needs
+
+enum-told-5 : tie.Need-enum-told-5
+enum-told-5 c = search needs
+
+enum-told-6 : tie.Need-enum-told-6
+enum-told-6 c = search needs
+
+enum-told-7 : tie.Need-enum-told-7
+enum-told-7 c = search needs
+
+enum-told-8 : tie.Need-enum-told-8
+enum-told-8 c = search needs
+
+with-poll-mode-requires : tie.Need-with-poll-mode-requires
+with-poll-mode-requires c κs = search needs
+
+enum-told-9 : tie.Need-enum-told-9
+enum-told-9 c = search needs
+
+with-poll-mode-requires-2 : tie.Need-with-poll-mode-requires-2
+with-poll-mode-requires-2 c κs = search needs
+
+returns : tie.Need-returns
+returns c = search needs
+
+returns-2 : tie.Need-returns-2
+returns-2 c =
+    simp (
+      c .heard-listen .ensures,
+      c .before .owns .ensures,
+      c .before .before .known-told .given .1,
+      c .before .before .before .m .given .1,
+      c .before .before .before .before .match .keys2,
+    )
+
+returns-3 : tie.Need-returns-3
+returns-3 c =
+    simp (
+      c .with-flags .ensures,
+      c .before .enum-told2 .given .1,
+    )
+
+returns-4 : tie.Need-returns-4
+returns-4 c =
+    simp (
+      c .heard-talk .ensures,
+      c .before .owns2 .ensures,
+      c .before .before .known-told2 .given .1,
+      c .before .before .before .m2 .given .1,
+      c .before .before .before .before .match .keys4,
+    )
+
+returns-5 : tie.Need-returns-5
+returns-5 c =
+    simp (
+      c .with-flags2 .ensures,
+      c .before .enum-told3 .given .1,
+    )
+
+returns-6 : tie.Need-returns-6
+returns-6 c = search needs
+
+returns-7 : tie.Need-returns-7
+returns-7 c = search needs
+
+returns-8 : tie.Need-returns-8
+returns-8 c = search needs
+
+returns-9 : tie.Need-returns-9
+returns-9 c = search needs
+
+returns-10 : tie.Need-returns-10
+returns-10 c =
+    simp (
+      c .with-poll-mode .ensures,
+      c .before .enum-told8 .given .1,
+    )
+
+returns-11 : tie.Need-returns-11
+returns-11 c =
+    simp (
+      c .with-poll-mode2 .ensures,
+      c .before .enum-told9 .given .1,
+    )
+
+pub heard-spec : {M : Type 1} → statement M
+heard-spec =
+    tie.close
+    (tie.spec
+    enum-told
+    enum-known-m
+    owns-requires
+    heard-listen-requires
+    enum-told-2
+    with-flags-requires
+    enum-known-m-2
+    owns-requires-2
+    heard-talk-requires
+    enum-told-3
+    with-flags-requires-2
+    enum-told-4
+    enum-told-5
+    enum-told-6
+    enum-told-7
+    enum-told-8
+    with-poll-mode-requires
+    enum-told-9
+    with-poll-mode-requires-2
+    returns
+    returns-2
+    returns-3
+    returns-4
+    returns-5
+    returns-6
+    returns-7
+    returns-8
+    returns-9
+    returns-10
+    returns-11)

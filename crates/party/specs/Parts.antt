@@ -1,0 +1,65 @@
+-- The idle party, and a party with one part changed.
+-- Assumes nothing.
+use Prim.Native.Nat.{ℕ}
+use mathlib.Core.Bool.{Bool, true, false}
+use Rattle.party.specs.Types.{Address, Role, Request, Party, Control, Source, Acceptor, Slot, Idle, Sids, Aids, Empty, Full, Nprs}
+
+abbrev pub unaddressed : Address → Role
+unaddressed a = record { address = a; talk = false; listen = false; poll = false }
+
+-- "All flags are off, control idle, SIDS, AIDS, nothing held, poll registers 0, NPRS."
+abbrev pub newborn : Address → Party
+newborn a = record {
+  role = unaddressed a;
+  control = Idle;
+  source = Sids;
+  acceptor = Aids;
+  held = Empty;
+  input = Empty;
+  request = record { live = 0; saved = 0; service = Nprs };
+}
+
+-- The idle party: "its address is 0".
+abbrev pub idle : Party
+idle = newborn (record { 0 = 0 })
+
+abbrev pub isFull : Slot → Bool
+isFull Empty = false
+isFull (Full v e) = true
+
+-- How many of one thing: 1 where the test holds, else 0.
+abbrev pub one : Bool → ℕ
+one true = 1
+one false = 0
+
+abbrev pub heldBytes : Party → ℕ
+heldBytes p = one (isFull (p .held))
+
+-- A role with talk and listen changed, and with poll mode changed.
+abbrev pub withFlags : Bool → Bool → Role → Role
+withFlags t l r = record { address = r .address; talk = t; listen = l; poll = r .poll }
+
+abbrev pub withPollMode : Bool → Role → Role
+withPollMode q r = record { address = r .address; talk = r .talk; listen = r .listen; poll = q }
+
+-- A party with one part changed: each part once.
+abbrev pub withRole : Role → Party → Party
+withRole r p = record { role = r; control = p .control; source = p .source; acceptor = p .acceptor; held = p .held; input = p .input; request = p .request }
+
+abbrev pub withControl : Control → Party → Party
+withControl c p = record { role = p .role; control = c; source = p .source; acceptor = p .acceptor; held = p .held; input = p .input; request = p .request }
+
+abbrev pub withSource : Source → Party → Party
+withSource s p = record { role = p .role; control = p .control; source = s; acceptor = p .acceptor; held = p .held; input = p .input; request = p .request }
+
+abbrev pub withAcceptor : Acceptor → Party → Party
+withAcceptor a p = record { role = p .role; control = p .control; source = p .source; acceptor = a; held = p .held; input = p .input; request = p .request }
+
+abbrev pub withHeld : Slot → Party → Party
+withHeld s p = record { role = p .role; control = p .control; source = p .source; acceptor = p .acceptor; held = s; input = p .input; request = p .request }
+
+abbrev pub withInput : Slot → Party → Party
+withInput s p = record { role = p .role; control = p .control; source = p .source; acceptor = p .acceptor; held = p .held; input = s; request = p .request }
+
+abbrev pub withRequest : Request → Party → Party
+withRequest q p = record { role = p .role; control = p .control; source = p .source; acceptor = p .acceptor; held = p .held; input = p .input; request = q }

@@ -1,0 +1,223 @@
+// A party with one part changed: the only functions that name all of its fields.
+ghost use mathlib.Core.Path.{_≡_};
+ghost use Rattle.party.specs.Parts.{unaddressed, withFlags, withPollMode, withRole, withControl, withSource, withAcceptor, withHeld, withInput, withRequest, isFull};
+use crate::Acceptor;
+use crate::Control;
+use crate::Party;
+use crate::Request;
+use crate::Role;
+use crate::Slot;
+use crate::Source;
+use message::Address;
+
+impl Slot {
+    pub fn is_full(self) -> bool
+        ensures { λ r. ⌜ r ≡ isFull self ⌝ }
+    {
+        match self {
+            Slot::Empty => false,
+            Slot::Full(_, _) => true,
+        }
+    }
+}
+
+impl Role {
+    // All flags off.
+    pub fn unaddressed(address: Address) -> Role
+        ensures { λ r. ⌜ r ≡ unaddressed address ⌝ }
+    {
+        Role {
+            address,
+            talk: false,
+            listen: false,
+            poll: false,
+        }
+    }
+
+    pub fn with_flags(self, talk: bool, listen: bool) -> Role
+        ensures { λ r. ⌜ r ≡ withFlags talk listen self ⌝ }
+    {
+        let address = self.address;
+        Role {
+            address,
+            talk,
+            listen,
+            poll: self.poll,
+        }
+    }
+
+    pub fn with_poll_mode(self, poll: bool) -> Role
+        ensures { λ r. ⌜ r ≡ withPollMode poll self ⌝ }
+    {
+        let address = self.address;
+        Role {
+            address,
+            talk: self.talk,
+            listen: self.listen,
+            poll,
+        }
+    }
+}
+
+impl Party {
+    pub fn with_role(self, role: Role) -> Party
+        ensures { λ r. ⌜ r ≡ withRole role self ⌝ }
+    {
+        let Party {
+            role: _,
+            control,
+            source,
+            acceptor,
+            held,
+            input,
+            request,
+        } = self;
+        Party {
+            role,
+            control,
+            source,
+            acceptor,
+            held,
+            input,
+            request,
+        }
+    }
+
+    pub fn with_control(self, control: Control) -> Party
+        ensures { λ r. ⌜ r ≡ withControl control self ⌝ }
+    {
+        let Party {
+            role,
+            control: _,
+            source,
+            acceptor,
+            held,
+            input,
+            request,
+        } = self;
+        Party {
+            role,
+            control,
+            source,
+            acceptor,
+            held,
+            input,
+            request,
+        }
+    }
+
+    pub fn with_source(self, source: Source) -> Party
+        ensures { λ r. ⌜ r ≡ withSource source self ⌝ }
+    {
+        let Party {
+            role,
+            control,
+            source: _,
+            acceptor,
+            held,
+            input,
+            request,
+        } = self;
+        Party {
+            role,
+            control,
+            source,
+            acceptor,
+            held,
+            input,
+            request,
+        }
+    }
+
+    pub fn with_acceptor(self, acceptor: Acceptor) -> Party
+        ensures { λ r. ⌜ r ≡ withAcceptor acceptor self ⌝ }
+    {
+        let Party {
+            role,
+            control,
+            source,
+            acceptor: _,
+            held,
+            input,
+            request,
+        } = self;
+        Party {
+            role,
+            control,
+            source,
+            acceptor,
+            held,
+            input,
+            request,
+        }
+    }
+
+    pub fn with_held(self, held: Slot) -> Party
+        ensures { λ r. ⌜ r ≡ withHeld held self ⌝ }
+    {
+        let Party {
+            role,
+            control,
+            source,
+            acceptor,
+            held: _,
+            input,
+            request,
+        } = self;
+        Party {
+            role,
+            control,
+            source,
+            acceptor,
+            held,
+            input,
+            request,
+        }
+    }
+
+    pub fn with_input(self, input: Slot) -> Party
+        ensures { λ r. ⌜ r ≡ withInput input self ⌝ }
+    {
+        let Party {
+            role,
+            control,
+            source,
+            acceptor,
+            held,
+            input: _,
+            request,
+        } = self;
+        Party {
+            role,
+            control,
+            source,
+            acceptor,
+            held,
+            input,
+            request,
+        }
+    }
+
+    pub fn with_request(self, request: Request) -> Party
+        ensures { λ r. ⌜ r ≡ withRequest request self ⌝ }
+    {
+        let Party {
+            role,
+            control,
+            source,
+            acceptor,
+            held,
+            input,
+            request: _,
+        } = self;
+        Party {
+            role,
+            control,
+            source,
+            acceptor,
+            held,
+            input,
+            request,
+        }
+    }
+}

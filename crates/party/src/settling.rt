@@ -1,0 +1,127 @@
+// Attention and settling, of one party.
+ghost use mathlib.Core.Path.{_≡_};
+ghost use Rattle.party.specs.Settling.{attendedAcceptor, attended, sourceSettled, rsv, serviceSettled, liveSettled, requestSettled, settled};
+use crate::Acceptor;
+use crate::Party;
+use crate::Request;
+use crate::Service;
+use crate::Source;
+
+impl Acceptor {
+    fn attended(atn: bool, active: bool, listen: bool) -> Acceptor
+        ensures { λ r. ⌜ r ≡ attendedAcceptor atn active listen ⌝ }
+    {
+        if atn {
+            if active {
+                Acceptor::Aids
+            } else {
+                Acceptor::Anrs
+            }
+        } else if listen {
+            Acceptor::Anrs
+        } else {
+            Acceptor::Aids
+        }
+    }
+}
+
+impl Source {
+    fn settled(self, sends: bool) -> Source
+        ensures { λ r. ⌜ r ≡ sourceSettled sends self ⌝ }
+    {
+        if sends {
+            match self {
+                Source::Sids => Source::Sgns,
+                Source::Sgns => Source::Sgns,
+                Source::Sdys => Source::Sdys,
+                Source::Strs => Source::Strs,
+            }
+        } else {
+            Source::Sids
+        }
+    }
+}
+
+impl Service {
+    fn settled(self, rsv: bool, polled: bool) -> Service
+        ensures { λ r. ⌜ r ≡ serviceSettled self rsv polled ⌝ }
+    {
+        match self {
+            Service::Nprs => {
+                if rsv {
+                    if polled { Service::Nprs } else { Service::Srqs }
+                } else {
+                    Service::Nprs
+                }
+            }
+            Service::Srqs => {
+                if polled {
+                    Service::Aprs
+                } else if rsv {
+                    Service::Srqs
+                } else {
+                    Service::Nprs
+                }
+            }
+            Service::Aprs => {
+                if rsv {
+                    Service::Aprs
+                } else if polled {
+                    Service::Aprs
+                } else {
+                    Service::Nprs
+                }
+            }
+        }
+    }
+}
+
+// Bit 64 of the live register.
+fn rsv_of(live: u8) -> bool
+    ensures { λ r. ⌜ r ≡ rsv live ⌝ }
+{
+    live / 64 % 2 == 1
+}
+
+impl Request {
+    fn live_settled(self, polled: bool) -> u8
+        ensures { λ r. ⌜ r ≡ liveSettled polled self ⌝ }
+    {
+        if polled { self.live } else { self.saved }
+    }
+
+    fn settled(self, polled: bool) -> Request
+        ensures { λ r. ⌜ r ≡ requestSettled polled self ⌝ }
+    {
+        let before = self.service;
+        let live = self.live_settled(polled);
+        let service = before.settled(rsv_of(live), polled);
+        Request {
+            live,
+            saved: self.saved,
+            service,
+        }
+    }
+}
+
+impl Party {
+    // A party after attention, with ATN as it then is.
+    pub fn attended(self, atn: bool) -> Party
+        ensures { λ r. ⌜ r ≡ attended atn self ⌝ }
+    {
+        let role = self.role;
+        let acceptor = Acceptor::attended(atn, self.is_active(), role.listen);
+        self.with_acceptor(acceptor).with_source(Source::Sids)
+    }
+
+    // A party after settling, with ATN as the call left it.
+    pub fn settled(self, atn: bool) -> Party
+        ensures { λ r. ⌜ r ≡ settled atn self ⌝ }
+    {
+        let source = self.source;
+        let request = self.request;
+        let next = source.settled(self.is_source(atn));
+        let asked = request.settled(self.is_polled(atn));
+        self.with_source(next).with_request(asked)
+    }
+}
