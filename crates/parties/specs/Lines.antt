@@ -1,12 +1,10 @@
 -- The lines of the bus, and the lines answer.
 -- Assumes nothing.
-use Prim.Native.Nat.{ℕ, _+_, _*_}
-use mathlib.Core.Bool.{Bool, true, false}
+use Prim.Native.Nat.{ℕ, _+_}
+use mathlib.Core.Bool.{Bool, cond}
 use mathlib.Core.List.{List}
-use Rattle.party.specs.Types.{Party}
-use Rattle.party.specs.Parts.{one}
 use Rattle.party.specs.Driving.{isActive, drivesDav, drivesNrfd, drivesNdac, drivesSrq}
-use Rattle.parties.specs.Types.{Lines}
+use Rattle.parties.specs.Types.{Party, Lines}
 use Rattle.parties.specs.Places.{some}
 
 -- "ATN: some party is active. DAV: some source in STRS. NRFD: some acceptor in ANRS, ACDS or AWNS. NDAC: some acceptor in ANRS,
@@ -22,5 +20,8 @@ linesOf n ps eoi = record {
 }
 
 -- "The lines answer is ATN 128, DAV 64, NDAC 32, NRFD 16, EOI 8, SRQ 4".
+abbrev pub weight : ℕ → Bool → ℕ
+weight w on = cond on w 0
+
 abbrev pub linesByte : Lines → ℕ
-linesByte l = 128 * one (l .atn) + 64 * one (l .dav) + 32 * one (l .ndac) + 16 * one (l .nrfd) + 8 * one (l .eoi) + 4 * one (l .srq)
+linesByte l = weight 128 (l .atn) + weight 64 (l .dav) + weight 32 (l .ndac) + weight 16 (l .nrfd) + weight 8 (l .eoi) + weight 4 (l .srq)

@@ -4,9 +4,8 @@ use Prim.Native.Nat.{ℕ, zero, suc, _+_}
 use mathlib.Core.Bool.{Bool, true, false, cond, _||_}
 use mathlib.Core.List.{List, [], _∷_}
 use lib.ListN.{getD, set}
-use Rattle.party.specs.Types.{Place, Party}
 use Rattle.party.specs.Parts.{idle}
-use Rattle.parties.specs.Types.{Found, Nowhere, At}
+use Rattle.parties.specs.Types.{Place, Party, Found, Nowhere, At}
 
 abbrev pub place : ℕ → Place
 place i = record { 0 = i }

@@ -1,4 +1,6 @@
--- The types of src/lib.rt and their cases, under one name.
+-- The types that this crate speaks of, and their cases, under one name.
+pub use Rattle.party.specs.declared.Place.{Place}
+pub use Rattle.party.specs.declared.Party.{Party}
 pub use Rattle.parties.specs.declared.Lines.{Lines}
 pub use Rattle.parties.specs.declared.Found.{Found}
 pub use Rattle.parties.specs.declared.Found.the-variants.{Nowhere, At}

@@ -1,8 +1,7 @@
 // The parties of a bus together: the lines that they drive.
 ghost use mathlib.Core.Path.{_≡_};
-ghost use Prim.Native.Nat.{_*_, _≤_};
-ghost use Rattle.party.specs.Parts.{one};
-ghost use Rattle.parties.specs.Lines.{linesByte};
+ghost use Prim.Native.Nat.{_≤_};
+ghost use Rattle.parties.specs.Lines.{weight, linesByte};
 use party::Party;
 use party::Place;
 
@@ -23,10 +22,10 @@ pub enum Found {
 }
 
 // The weight of a line in the lines answer.
-fn bit(on: bool, weight: u8) -> u8
-    ensures { λ r. ⌜ (r ≡ weight * one on) × (r ≤ weight) ⌝ }
+fn bit(on: bool, w: u8) -> u8
+    ensures { λ r. ⌜ (r ≡ weight w on) × (r ≤ w) ⌝ }
 {
-    if on { weight } else { 0 }
+    if on { w } else { 0 }
 }
 
 impl Lines {

@@ -3,10 +3,14 @@
 use Prim.Native.Nat.{ℕ, _/_, _%_}
 use mathlib.Core.Bool.{Bool, true, false, not, cond, _&&_, _||_}
 use lib.Dec.{eqb}
-use Rattle.party.specs.Types.{Party, Source, Sids, Sgns, Sdys, Strs, Acceptor, Aids, Anrs, Request, Service, Nprs, Srqs, Aprs}
-use Rattle.party.specs.Parts.{withSource, withAcceptor, withRequest}
+use Rattle.party.specs.Types.{Party, Control, Empty, Source, Sids, Sgns, Sdys, Strs, Acceptor, Aids, Anrs, Request, Service, Nprs, Srqs, Aprs}
+use Rattle.party.specs.Parts.{withControl, withSource, withAcceptor, withHeld, withRequest}
 use Rattle.party.specs.Driving.{isActive}
 use Rattle.party.specs.Sending.{isSource, isPolled}
+
+-- "A party that becomes or stops being active loses its held byte (dropped)."
+abbrev pub changeControl : Control → Party → Party
+changeControl c p = withHeld Empty (withControl c p)
 
 -- "with ATN true the active party to AIDS, all others to ANRS; with ATN false listeners to ANRS, others to AIDS"
 abbrev pub attendedAcceptor : Bool → Bool → Bool → Acceptor

@@ -1,0 +1,2 @@
+-- The proofs about the machine.
+pub mod Examples

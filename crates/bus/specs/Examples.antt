@@ -1,0 +1,283 @@
+-- Document 01's proved examples, P1 to P12: twelve rows, and one proposition that says that the machine answers as they do.
+-- A row is a list of runs. A run is a build with its answer, then calls, each beside the answer that document 01 asks for.
+-- Assumes nothing.
+use Prim.Native.Nat.{ℕ}
+use mathlib.Core.Path.{_≡_}
+use mathlib.Core.Bool.{Bool, true, false}
+use mathlib.Core.List.{List, [], _∷_, map}
+use Rattle.parties.specs.Places.{place}
+use Rattle.bus.specs.Types.{Event, Bus, Answer, Call, Refusal}
+use Rattle.bus.specs.Types.no
+use Rattle.bus.specs.Types.ev
+use Rattle.bus.specs.Types.call-of
+use Rattle.bus.specs.Record.{build}
+use Rattle.bus.specs.Machine.{call}
+
+-- An answer without its bus.
+pub record Report : Type 0 where
+  pub refusal : Refusal
+  pub event : Event
+  pub byte : ℕ
+  pub end : Bool
+  pub dropped : ℕ
+  pub broken : ℕ
+
+abbrev pub reported : Answer → Report
+reported a = record { refusal = a .refusal; event = a .event; byte = a .byte; end = a .end; dropped = a .dropped; broken = a .broken }
+
+pub record Run : Type 0 where
+  pub addresses : List ℕ
+  pub system : ℕ
+  pub built : Report
+  pub calls : List (Call × Report)
+
+abbrev pub answers : Bus → List (Call × Report) → List Report
+answers b [] = []
+answers b (c ∷ cs) = reported (call b (c .0)) ∷ answers (call b (c .0) .bus) cs
+
+abbrev pub outcome : Run → List Report
+outcome r = reported (build (r .addresses) (place (r .system))) ∷ answers (build (r .addresses) (place (r .system)) .bus) (r .calls)
+
+abbrev pub expected : Run → List Report
+expected r = r .built ∷ map (λ c. c .1) (r .calls)
+
+-- The answers: nothing to say; moved; an event with its byte and END; a refusal.
+abbrev ok : Report
+ok = record { refusal = no.Accepted; event = ev.None; byte = 0; end = false; dropped = 0; broken = 0 }
+
+abbrev moved : Report
+moved = record { refusal = no.Accepted; event = ev.Moved; byte = 0; end = false; dropped = 0; broken = 0 }
+
+abbrev says : Event → ℕ → Bool → Report
+says x v e = record { refusal = no.Accepted; event = x; byte = v; end = e; dropped = 0; broken = 0 }
+
+abbrev refused : Refusal → Report
+refused r = record { refusal = r; event = ev.None; byte = 0; end = false; dropped = 0; broken = 0 }
+
+-- The calls.
+abbrev step : ℕ → Call
+step p = call-of.Step (place p)
+
+abbrev write : ℕ → ℕ → ℕ → Call
+write p v e = call-of.Write (place p) v e
+
+abbrev read : ℕ → Call
+read p = call-of.Read (place p)
+
+abbrev listenOnly : ℕ → ℕ → Call
+listenOnly p on = call-of.ListenOnly (place p) on
+
+abbrev talkOnly : ℕ → ℕ → Call
+talkOnly p on = call-of.TalkOnly (place p) on
+
+abbrev clear : ℕ → Call
+clear p = call-of.InterfaceClear (place p)
+
+abbrev standby : ℕ → Call
+standby p = call-of.GoToStandby (place p)
+
+abbrev run : List ℕ → List (Call × Report) → Run
+run addresses calls = record { addresses = addresses; system = 0; built = ok; calls = calls }
+
+-- "P1 the script above": its records 2 to 8, and 9 to 12.
+abbrev taking : List (Call × Report) → List (Call × Report)
+taking rest =
+    (talkOnly 0 1, ok)
+    ∷ (listenOnly 1 1, ok)
+    ∷ (write 0 0x41 1, ok)
+    ∷ (step 0, moved)
+    ∷ (step 1, moved)
+    ∷ (step 0, says ev.Data 0x41 true)
+    ∷ (step 1, says ev.Took 0x41 true)
+    ∷ rest
+
+abbrev pub P1 : List Run
+P1 =
+    run (5 ∷ 6 ∷ []) (taking (
+    (step 0, ok)
+    ∷ (step 1, moved)
+    ∷ (step 0, says ev.Ended 0x41 true)
+    ∷ (read 1, says ev.Read 0x41 true)
+    ∷ []))
+    ∷ []
+
+-- "P2 lines after record 8: 78 hexadecimal"
+abbrev pub P2 : List Run
+P2 = run (5 ∷ 6 ∷ []) (taking ((call-of.Lines, says ev.Lines 0x78 false) ∷ [])) ∷ []
+
+-- "P3 joining under DAV: only the next byte is taken": party 2 joins while 41 stands, and takes 42.
+abbrev pub P3 : List Run
+P3 =
+    run (5 ∷ 6 ∷ 7 ∷ []) (
+    (talkOnly 0 1, ok)
+    ∷ (listenOnly 1 1, ok)
+    ∷ (write 0 0x41 0, ok)
+    ∷ (step 1, moved)
+    ∷ (step 0, moved)
+    ∷ (step 0, says ev.Data 0x41 false)
+    ∷ (listenOnly 2 1, ok)
+    ∷ (step 2, ok)
+    ∷ (step 1, says ev.Took 0x41 false)
+    ∷ (step 2, ok)
+    ∷ (step 1, moved)
+    ∷ (step 0, says ev.Ended 0x41 false)
+    ∷ (step 2, moved)
+    ∷ (step 2, moved)
+    ∷ (read 2, refused no.Empty)
+    ∷ (read 1, says ev.Read 0x41 false)
+    ∷ (step 1, moved)
+    ∷ (step 1, moved)
+    ∷ (write 0 0x42 0, ok)
+    ∷ (step 0, moved)
+    ∷ (step 0, says ev.Data 0x42 false)
+    ∷ (step 2, says ev.Took 0x42 false)
+    ∷ (read 2, says ev.Read 0x42 false)
+    ∷ [])
+    ∷ []
+
+-- "P4 off and on again after taking: no second take"
+abbrev pub P4 : List Run
+P4 =
+    run (5 ∷ 6 ∷ []) (taking (
+    (read 1, says ev.Read 0x41 true)
+    ∷ (listenOnly 1 0, ok)
+    ∷ (listenOnly 1 1, ok)
+    ∷ (step 1, ok)
+    ∷ (step 0, says ev.Ended 0x41 true)
+    ∷ (step 1, moved)
+    ∷ (step 1, moved)
+    ∷ (step 1, ok)
+    ∷ (read 1, refused no.Empty)
+    ∷ []))
+    ∷ []
+
+-- "P5 one slow listener of two: not ended before both are in AWNS"
+abbrev pub P5 : List Run
+P5 =
+    run (5 ∷ 6 ∷ 7 ∷ []) (
+    (talkOnly 0 1, ok)
+    ∷ (listenOnly 1 1, ok)
+    ∷ (listenOnly 2 1, ok)
+    ∷ (write 0 0x41 0, ok)
+    ∷ (step 1, moved)
+    ∷ (step 2, moved)
+    ∷ (step 0, moved)
+    ∷ (step 0, says ev.Data 0x41 false)
+    ∷ (step 1, says ev.Took 0x41 false)
+    ∷ (step 1, moved)
+    ∷ (step 0, ok)
+    ∷ (step 2, says ev.Took 0x41 false)
+    ∷ (step 0, ok)
+    ∷ (step 2, moved)
+    ∷ (step 0, says ev.Ended 0x41 false)
+    ∷ [])
+    ∷ []
+
+-- "P6 control taken after one of two took: broken 1". Lines B0 afterwards: ATN, NDAC and NRFD, and DAV no more.
+abbrev pub P6 : List Run
+P6 =
+    run (4 ∷ 5 ∷ 6 ∷ 7 ∷ []) (
+    (clear 0, ok)
+    ∷ (standby 0, ok)
+    ∷ (talkOnly 1 1, ok)
+    ∷ (listenOnly 2 1, ok)
+    ∷ (listenOnly 3 1, ok)
+    ∷ (write 1 0x41 0, ok)
+    ∷ (step 2, moved)
+    ∷ (step 3, moved)
+    ∷ (step 1, moved)
+    ∷ (step 1, says ev.Data 0x41 false)
+    ∷ (step 2, says ev.Took 0x41 false)
+    ∷ (call-of.TakeControl (place 0), record { refusal = no.Accepted; event = ev.None; byte = 0; end = false; dropped = 0; broken = 1 })
+    ∷ (call-of.Lines, says ev.Lines 0xb0 false)
+    ∷ [])
+    ∷ []
+
+-- "P7 no listener: noacc, dropped 1"
+abbrev pub P7 : List Run
+P7 =
+    run (5 ∷ 6 ∷ []) (
+    (talkOnly 0 1, ok)
+    ∷ (write 0 0x41 1, ok)
+    ∷ (step 0, moved)
+    ∷ (step 0, record { refusal = no.Accepted; event = ev.Noacc; byte = 0x41; end = true; dropped = 1; broken = 0 })
+    ∷ [])
+    ∷ []
+
+-- A build that is refused leaves the bus of no parties: no line is driven, and no party is there.
+abbrev notBuilt : List ℕ → Run
+notBuilt addresses = record {
+  addresses = addresses;
+  system = 0;
+  built = refused no.BadBuild;
+  calls = (call-of.Lines, says ev.Lines 0 false) ∷ (step 0, refused no.NoParty) ∷ [];
+}
+
+-- "P8 address 30 built, 31 refused"
+abbrev pub P8 : List Run
+P8 = run (30 ∷ []) ((step 0, ok) ∷ []) ∷ notBuilt (31 ∷ []) ∷ []
+
+-- "P9 15 parties built, 16 refused"
+abbrev pub P9 : List Run
+P9 =
+    run (0 ∷ 1 ∷ 2 ∷ 3 ∷ 4 ∷ 5 ∷ 6 ∷ 7 ∷ 8 ∷ 9 ∷ 10 ∷ 11 ∷ 12 ∷ 13 ∷ 14 ∷ []) ((step 14, ok) ∷ (step 15, refused no.NoParty) ∷ [])
+    ∷ notBuilt (0 ∷ 1 ∷ 2 ∷ 3 ∷ 4 ∷ 5 ∷ 6 ∷ 7 ∷ 8 ∷ 9 ∷ 10 ∷ 11 ∷ 12 ∷ 13 ∷ 14 ∷ 15 ∷ [])
+    ∷ []
+
+-- Party 0 sends command v to party 1, whose acceptor is in ANRS.
+abbrev sends : ℕ → List (Call × Report) → List (Call × Report)
+sends v rest =
+    (write 0 v 0, ok)
+    ∷ (step 1, moved)
+    ∷ (step 0, moved)
+    ∷ (step 0, says ev.Cmd v false)
+    ∷ (step 1, says ev.Heard v false)
+    ∷ (step 1, moved)
+    ∷ (step 0, says ev.Ended v false)
+    ∷ rest
+
+-- "P10 C5 is heard as talk address 5": party 1 talks, so that it may not listen.
+abbrev pub P10 : List Run
+P10 = run (4 ∷ 5 ∷ []) ((clear 0, ok) ∷ sends 0xc5 ((standby 0, ok) ∷ (listenOnly 1 1, refused no.Role) ∷ [])) ∷ []
+
+-- "P11 standby under a standing command: 7"
+abbrev pub P11 : List Run
+P11 =
+    run (4 ∷ 5 ∷ []) (
+    (clear 0, ok)
+    ∷ (write 0 0x3f 0, ok)
+    ∷ (step 1, moved)
+    ∷ (step 0, moved)
+    ∷ (step 0, says ev.Cmd 0x3f false)
+    ∷ (standby 0, refused no.Standing)
+    ∷ [])
+    ∷ []
+
+-- A serial poll of party 1 by party 0: lines before it (SRQ is 4), SPE, its talk address, and the status byte.
+abbrev poll : ℕ → ℕ → ℕ → Run
+poll register srq status =
+    run (4 ∷ 5 ∷ []) (
+    (call-of.PollRegister (place 1) register, ok)
+    ∷ (call-of.Lines, says ev.Lines srq false)
+    ∷ (clear 0, ok)
+    ∷ sends 0x18 (
+    (step 1, moved)
+    ∷ sends 0x45 (
+    (standby 0, ok)
+    ∷ (listenOnly 0 1, ok)
+    ∷ (step 0, moved)
+    ∷ (step 1, moved)
+    ∷ (step 1, says ev.Stat status false)
+    ∷ (step 0, says ev.Took status false)
+    ∷ [])))
+
+-- "P12 poll register 41 (hexadecimal) polled from SRQS sends 41, register 01 polled from NPRS sends 01"
+abbrev pub P12 : List Run
+P12 = poll 0x41 4 0x41 ∷ poll 0x01 0 0x01 ∷ []
+
+abbrev pub rows : List (List Run)
+rows = P1 ∷ P2 ∷ P3 ∷ P4 ∷ P5 ∷ P6 ∷ P7 ∷ P8 ∷ P9 ∷ P10 ∷ P11 ∷ P12 ∷ []
+
+-- Each row's runs answer as the row says.
+abbrev pub Examples : Type 0
+Examples = map (map outcome) rows ≡ map (map expected) rows

@@ -1,0 +1,49 @@
+-- Attention and settling of the whole bus, and the two ways in which a call of one party ends (document 01, "Attention and settling").
+-- Assumes nothing.
+use Prim.Native.Nat.{ℕ}
+use mathlib.Core.Bool.{Bool, true, false, not, cond}
+use mathlib.Core.List.{List}
+use lib.ListN.{set}
+use Rattle.party.specs.Parts.{one}
+use Rattle.party.specs.Driving.{isActive}
+use Rattle.party.specs.Sending.{isSource}
+use Rattle.party.specs.Settling.{attended, settled}
+use Rattle.parties.specs.Places.{at, some, each}
+use Rattle.bus.specs.Types.{Party, Standing, Nothing, Byte, Bus, Answer, Effect}
+use Rattle.bus.specs.Types.no
+use Rattle.bus.specs.Record.{stands}
+
+-- "After each accepted call every party settles." `off` says that what stands is broken off.
+abbrev pub settleAs : Bool → Bool → Bus → Effect → List Party → Answer
+settleAs atn off b e ps = record {
+  refusal = no.Accepted;
+  event = e .event;
+  byte = e .byte;
+  end = e .end;
+  dropped = e .dropped;
+  broken = one off;
+  bus = record { parties = each (b .count) (settled atn) ps; count = b .count; system = b .system; standing = cond off Nothing (e .standing) };
+}
+
+-- "A non-source goes to SIDS, its own standing byte broken off": its sender is no source any more.
+abbrev pub deserted : Bool → List Party → Standing → Bool
+deserted atn ps Nothing = false
+deserted atn ps (Byte s k v e) = not (isSource atn (at ps (s .0)))
+
+-- Settling alone. ATN is the line as the call leaves it.
+abbrev pub settle : Bus → Effect → List Party → Answer
+settle b e ps = settleAs (some (b .count) isActive ps) (deserted (some (b .count) isActive ps) ps (e .standing)) b e ps
+
+-- Attention, then settling: "a standing byte is broken off and never put again; all sources to SIDS; ..".
+abbrev pub attendAs : Bool → Bus → Effect → List Party → Answer
+attendAs atn b e ps = settleAs atn (stands (e .standing)) b e (each (b .count) (attended atn) ps)
+
+abbrev pub attend : Bus → Effect → List Party → Answer
+attend b e ps = attendAs (some (b .count) isActive ps) b e ps
+
+-- A call that changes party i: without attention, and with it ("a call that changes which party is active (or none)").
+abbrev pub touch : Bus → ℕ → Effect → Answer
+touch b i e = settle b e (set (b .parties) i (e .party))
+
+abbrev pub alarm : Bus → ℕ → Effect → Answer
+alarm b i e = attend b e (set (b .parties) i (e .party))

@@ -1,0 +1,108 @@
+-- A step of a party (document 01, "A step of party p"). It reads the lines, what stands and the party; only the end of TCT reads another party.
+-- Assumes nothing.
+use Prim.Native.Nat.{ℕ, _+_}
+use mathlib.Core.Bool.{Bool, true, false, not, cond, _&&_, _||_}
+use lib.ListN.{set}
+use Rattle.message.specs.Meaning.{meaning}
+use Rattle.party.specs.Parts.{idle, isFull, one, heldBytes, withRole, withSource, withAcceptor, withInput}
+use Rattle.party.specs.Driving.{isActive}
+use Rattle.party.specs.Hearing.{hear, hearEvent, passesControl}
+use Rattle.party.specs.Sending.{isSource, isPolled, offer, kindOf, endOf, putEvent, afterPut, afterNoacc, noaccDrops}
+use Rattle.party.specs.Settling.{changeControl}
+use Rattle.parties.specs.Places.{place, otherTalker}
+use Rattle.bus.specs.Types.{Place, Party, Source, Sids, Sgns, Sdys, Strs, Acceptor, Aids, Anrs, Acrs, Acds, Awns, Idle, Active, Slot, Empty, Full, Kind, Command, Data, Status, Event, Lines, Found, Nowhere, At, Standing, Nothing, Byte, Bus, Answer, Effect}
+use Rattle.bus.specs.Types.ev
+use Rattle.bus.specs.Record.{here, lines, ofCommand}
+use Rattle.bus.specs.Settling.{attend, touch}
+
+-- An effect on party p that says no more than its event: none, or "moved (a step that changed the party's source or acceptor state and
+-- has no other event)".
+abbrev pub stay : Standing → Party → Effect
+stay st p = record { event = ev.None; byte = 0; end = false; dropped = 0; passes = false; party = p; standing = st }
+
+abbrev pub move : Standing → Party → Effect
+move st p = record { event = ev.Moved; byte = 0; end = false; dropped = 0; passes = false; party = p; standing = st }
+
+-- An effect whose event carries a byte with its END.
+abbrev pub say : Event → ℕ → Bool → Standing → Party → Effect
+say x v e st p = record { event = x; byte = v; end = e; dropped = 0; passes = false; party = p; standing = st }
+
+-- Source step.
+
+-- "put: to STRS, the byte stands"
+abbrev pub put : Kind → ℕ → Bool → Place → Party → Effect
+put k v e i p = say (putEvent k) v (endOf k e) (Byte i k v (endOf k e)) (afterPut k p)
+
+-- "event noacc, to SGNS, and the held byte is dropped if it was the one on offer"
+abbrev pub noacc : Kind → ℕ → Bool → Standing → Party → Effect
+noacc k v e st p = record { event = ev.Noacc; byte = v; end = endOf k e; dropped = noaccDrops k; passes = false; party = afterNoacc k p; standing = st }
+
+-- "SDYS: no byte on offer, to SGNS; else NRFD true, stay; else NDAC false, event noacc ..; else put"
+abbrev pub ready : Slot → Kind → Lines → Standing → Place → Party → Effect
+ready Empty k l st i p = move st (withSource Sgns p)
+ready (Full v e) k l st i p = cond (l .nrfd) (stay st p) (cond (l .ndac) (put k v e i p) (noacc k v e st p))
+
+-- The party once it has heard a command.
+abbrev pub heardBy : ℕ → Party → Party
+heardBy v p = withRole (hear (meaning v) (p .role)) p
+
+-- "event ended, to SGNS, and a command is then heard by its own sender too"
+abbrev pub ended : Standing → Party → Effect
+ended Nothing p = stay Nothing p
+ended (Byte s k v e) p = record {
+  event = ev.Ended;
+  byte = v;
+  end = e;
+  dropped = 0;
+  passes = ofCommand k && passesControl (meaning v);
+  party = withSource Sgns (cond (ofCommand k) (heardBy v p) p);
+  standing = Nothing;
+}
+
+-- "SGNS: with a byte on offer .. to SDYS." "STRS: NDAC false, event ended ..; else stay." Settling leaves no source in SIDS.
+abbrev pub sourceStep : Source → Slot → Kind → Lines → Standing → Place → Party → Effect
+sourceStep Sids o k l st i p = stay st p
+sourceStep Sgns o k l st i p = cond (isFull o) (move st (withSource Sdys p)) (stay st p)
+sourceStep Sdys o k l st i p = ready o k l st i p
+sourceStep Strs o k l st i p = cond (l .ndac) (stay st p) (ended st p)
+
+-- Acceptor step.
+
+-- "Taking with ATN false fills data-in; with ATN true the byte is heard."
+abbrev pub take : Bool → Standing → Party → Effect
+take atn Nothing p = stay Nothing p
+take atn (Byte s k v e) p =
+    cond atn
+    (say (hearEvent (meaning v) (p .role .listen)) v e (Byte s k v e) (withAcceptor Acds (heardBy v p)))
+    (say ev.Took v e (Byte s k v e) (withAcceptor Acds (withInput (Full v e) p)))
+
+-- "ANRS: to ACRS if ATN is true or data-in is empty. ACRS: if DAV, take and go to ACDS. ACDS: to AWNS. AWNS: to ANRS if DAV is false. AIDS: stay."
+abbrev pub acceptorStep : Acceptor → Lines → Standing → Party → Effect
+acceptorStep Aids l st p = stay st p
+acceptorStep Anrs l st p = cond (l .atn || not (isFull (p .input))) (move st (withAcceptor Acrs p)) (stay st p)
+acceptorStep Acrs l st p = cond (l .dav) (take (l .atn) st p) (stay st p)
+acceptorStep Acds l st p = move st (withAcceptor Awns p)
+acceptorStep Awns l st p = cond (l .dav) (stay st p) (move st (withAcceptor Anrs p))
+
+-- "A source takes the source step, any other party the acceptor step."
+abbrev pub effect : Lines → Standing → Place → Party → Effect
+effect l st i p =
+    cond (isSource (l .atn) p)
+    (sourceStep (p .source) (offer (isPolled (l .atn) p) p) (kindOf (isActive p) (isPolled (l .atn) p)) l st i p)
+    (acceptorStep (p .acceptor) l st p)
+
+-- "when it ends, control goes to the talk-on party other than the sender, if there is one: that party is active, the sender idle, event passed"
+abbrev pub pass : Bus → ℕ → Effect → ℕ → Answer
+pass b i e j = attend b
+    (record { event = ev.Passed; byte = e .byte; end = e .end; dropped = heldBytes (e .party) + heldBytes (here b j); passes = false; party = e .party; standing = e .standing })
+    (set (set (b .parties) i (changeControl Idle (e .party))) j (changeControl Active (here b j)))
+
+abbrev pub handOn : Bus → ℕ → Effect → Found → Answer
+handOn b i e Nowhere = touch b i e
+handOn b i e (At j) = pass b i e (j .0)
+
+abbrev pub turn : Bus → ℕ → Effect → Answer
+turn b i e = cond (e .passes) (handOn b i e (otherTalker (b .count) i (b .parties))) (touch b i e)
+
+abbrev pub step : Bus → ℕ → Answer
+step b i = turn b i (effect (lines b) (b .standing) (place i) (here b i))
