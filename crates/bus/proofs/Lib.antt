@@ -1,2 +1,3 @@
 -- The proofs about the machine.
+pub mod Building
 pub mod Examples

@@ -1,5 +1,8 @@
 // The bus: its parties, the standing byte, the calls on it and their answers.
-use party::{Event, Kind, Party, Place};
+use party::Event;
+use party::Kind;
+use party::Party;
+use party::Place;
 
 // Document 01's standing byte: its sender, kind, value and END. It stands exactly while its sender is in STRS.
 pub enum Standing {
