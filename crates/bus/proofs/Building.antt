@@ -8,10 +8,9 @@ use Rattle.party.specs.Parts.{idle, newborn}
 use Rattle.party.specs.Driving.{isActive}
 use Rattle.party.specs.Settling.{settled}
 use Rattle.parties.specs.Places.{at, some, each}
-use Rattle.bus.specs.Types.{Address, Party, Place}
+use Rattle.bus.specs.Types.{Address, Place, Nothing, Said}
 use Rattle.bus.specs.Record.{placed, built, build}
 use Rattle.bus.specs.Settling.{settle}
-use Rattle.bus.specs.Step.{stay}
 
 pub newborn-still : (atn : Bool) (a : Address) → settled atn (newborn a) ≡ newborn a
 newborn-still true a = refl
@@ -24,5 +23,5 @@ placed-still (suc n) (suc m) atn [] = rw (newborn-still atn, placed-still n m at
 placed-still (suc n) (suc m) atn (a ∷ xs) = rw (newborn-still atn, placed-still n m atn xs) refl
 
 -- the answer of settling a bus just built, with nothing to say
-pub built-settled : (xs : List ℕ) (s : Place) (p : Party) → settle (built xs s) (stay (built xs s .standing) p) (built xs s .parties) .bus ≡ built xs s
-built-settled xs s p = rw (placed-still _ 15 _ xs) refl
+pub built-settled : (xs : List ℕ) (s : Place) (w : Said) → settle (built xs s) w (built xs s .parties) Nothing .bus ≡ built xs s
+built-settled xs s w = rw (placed-still _ 15 _ xs) refl

@@ -11,12 +11,12 @@ use Rattle.parties.specs.Lines.{linesByte}
 use Rattle.bus.specs.Types.{Role, Party, Acceptor, Aids, Anrs, Awns, Control, Idle, Standby, Active, Slot, Empty, Full, Lines, Standing, Bus, Answer, Effect}
 use Rattle.bus.specs.Types.ev
 use Rattle.bus.specs.Record.{here, lines}
-use Rattle.bus.specs.Settling.{settle, attend, touch, alarm}
-use Rattle.bus.specs.Step.{stay, say}
+use Rattle.bus.specs.Settling.{say, settle, attend, touch, alarm}
+use Rattle.bus.specs.Step.{does, stay}
 
 -- "An accepted host call other than read and lines has event none": an effect that drops d held bytes and says nothing more.
 abbrev pub quiet : ℕ → Standing → Party → Effect
-quiet d st p = record { event = ev.None; byte = 0; end = false; dropped = d; passes = false; party = p; standing = st }
+quiet d st p = does (say ev.None 0 false d) p st
 
 -- "Write data (byte, END): held."
 abbrev pub write : ℕ → Bool → Standing → Party → Effect
@@ -25,7 +25,7 @@ write v e st p = quiet 0 st (withHeld (Full v e) p)
 -- "Read data: gives data-in, empties it."
 abbrev pub read : Slot → Standing → Party → Effect
 read Empty st p = stay st p
-read (Full v e) st p = say ev.Read v e st (withInput Empty p)
+read (Full v e) st p = does (say ev.Read v e 0) (withInput Empty p) st
 
 -- "Poll register: sets saved."
 abbrev pub pollRegister : ℕ → Standing → Party → Effect
@@ -81,9 +81,10 @@ clearDrops p = one (isActive p && isFull (p .held))
 -- "the system party active, its held byte dropped"
 abbrev pub clear : Bus → ℕ → Answer
 clear b i = attend b
-    (quiet (total (b .count) clearDrops (b .parties) + heldBytes (cleared (here b i))) (b .standing) (here b i))
+    (say ev.None 0 false (total (b .count) clearDrops (b .parties) + heldBytes (cleared (here b i))))
     (set (each (b .count) cleared (b .parties)) i (changeControl Active (cleared (here b i))))
+    (b .standing)
 
 -- "The event lines carries the lines answer with END 0".
 abbrev pub linesAnswer : Bus → Answer
-linesAnswer b = settle b (say ev.Lines (linesByte (lines b)) false (b .standing) (here b 0)) (b .parties)
+linesAnswer b = settle b (say ev.Lines (linesByte (lines b)) false 0) (b .parties) (b .standing)

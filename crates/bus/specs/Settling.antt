@@ -9,20 +9,23 @@ use Rattle.party.specs.Driving.{isActive}
 use Rattle.party.specs.Sending.{isSource}
 use Rattle.party.specs.Settling.{attended, settled}
 use Rattle.parties.specs.Places.{at, some, each}
-use Rattle.bus.specs.Types.{Party, Standing, Nothing, Byte, Bus, Answer, Effect}
+use Rattle.bus.specs.Types.{Party, Event, Standing, Nothing, Byte, Bus, Answer, Said, Effect}
 use Rattle.bus.specs.Types.no
 use Rattle.bus.specs.Record.{stands}
 
+abbrev pub say : Event → ℕ → Bool → ℕ → Said
+say x v e d = record { event = x; byte = v; end = e; dropped = d }
+
 -- "After each accepted call every party settles." `off` says that what stands is broken off.
-abbrev pub settleAs : Bool → Bool → Bus → Effect → List Party → Answer
-settleAs atn off b e ps = record {
+abbrev pub settleAs : Bool → Bool → Bus → Said → List Party → Standing → Answer
+settleAs atn off b s ps st = record {
   refusal = no.Accepted;
-  event = e .event;
-  byte = e .byte;
-  end = e .end;
-  dropped = e .dropped;
+  event = s .event;
+  byte = s .byte;
+  end = s .end;
+  dropped = s .dropped;
   broken = one off;
-  bus = record { parties = each (b .count) (settled atn) ps; count = b .count; system = b .system; standing = cond off Nothing (e .standing) };
+  bus = record { parties = each (b .count) (settled atn) ps; count = b .count; system = b .system; standing = cond off Nothing st };
 }
 
 -- "A non-source goes to SIDS, its own standing byte broken off": its sender is no source any more.
@@ -31,19 +34,19 @@ deserted atn ps Nothing = false
 deserted atn ps (Byte s k v e) = not (isSource atn (at ps (s .0)))
 
 -- Settling alone. ATN is the line as the call leaves it.
-abbrev pub settle : Bus → Effect → List Party → Answer
-settle b e ps = settleAs (some (b .count) isActive ps) (deserted (some (b .count) isActive ps) ps (e .standing)) b e ps
+abbrev pub settle : Bus → Said → List Party → Standing → Answer
+settle b s ps st = settleAs (some (b .count) isActive ps) (deserted (some (b .count) isActive ps) ps st) b s ps st
 
 -- Attention, then settling: "a standing byte is broken off and never put again; all sources to SIDS; ..".
-abbrev pub attendAs : Bool → Bus → Effect → List Party → Answer
-attendAs atn b e ps = settleAs atn (stands (e .standing)) b e (each (b .count) (attended atn) ps)
+abbrev pub attendAs : Bool → Bus → Said → List Party → Standing → Answer
+attendAs atn b s ps st = settleAs atn (stands st) b s (each (b .count) (attended atn) ps) st
 
-abbrev pub attend : Bus → Effect → List Party → Answer
-attend b e ps = attendAs (some (b .count) isActive ps) b e ps
+abbrev pub attend : Bus → Said → List Party → Standing → Answer
+attend b s ps st = attendAs (some (b .count) isActive ps) b s ps st
 
 -- A call that changes party i: without attention, and with it ("a call that changes which party is active (or none)").
 abbrev pub touch : Bus → ℕ → Effect → Answer
-touch b i e = settle b e (set (b .parties) i (e .party))
+touch b i e = settle b (e .said) (set (b .parties) i (e .party)) (e .standing)
 
 abbrev pub alarm : Bus → ℕ → Effect → Answer
-alarm b i e = attend b e (set (b .parties) i (e .party))
+alarm b i e = attend b (e .said) (set (b .parties) i (e .party)) (e .standing)

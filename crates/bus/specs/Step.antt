@@ -10,32 +10,31 @@ use Rattle.party.specs.Hearing.{hear, hearEvent, passesControl}
 use Rattle.party.specs.Sending.{isSource, isPolled, offer, kindOf, endOf, putEvent, afterPut, afterNoacc, noaccDrops}
 use Rattle.party.specs.Settling.{changeControl}
 use Rattle.parties.specs.Places.{place, otherTalker}
-use Rattle.bus.specs.Types.{Place, Party, Source, Sids, Sgns, Sdys, Strs, Acceptor, Aids, Anrs, Acrs, Acds, Awns, Idle, Active, Slot, Empty, Full, Kind, Command, Data, Status, Event, Lines, Found, Nowhere, At, Standing, Nothing, Byte, Bus, Answer, Effect}
+use Rattle.bus.specs.Types.{Place, Party, Source, Sids, Sgns, Sdys, Strs, Acceptor, Aids, Anrs, Acrs, Acds, Awns, Idle, Active, Slot, Empty, Full, Kind, Command, Data, Status, Event, Lines, Found, Nowhere, At, Standing, Nothing, Byte, Bus, Answer, Said, Effect}
 use Rattle.bus.specs.Types.ev
 use Rattle.bus.specs.Record.{here, lines, ofCommand}
-use Rattle.bus.specs.Settling.{attend, touch}
+use Rattle.bus.specs.Settling.{say, attend, touch}
 
--- An effect on party p that says no more than its event: none, or "moved (a step that changed the party's source or acceptor state and
--- has no other event)".
+-- An effect on party p by which no control goes on.
+abbrev pub does : Said → Party → Standing → Effect
+does s p st = record { said = s; passes = false; party = p; standing = st }
+
+-- No event; "moved (a step that changed the party's source or acceptor state and has no other event)".
 abbrev pub stay : Standing → Party → Effect
-stay st p = record { event = ev.None; byte = 0; end = false; dropped = 0; passes = false; party = p; standing = st }
+stay st p = does (say ev.None 0 false 0) p st
 
 abbrev pub move : Standing → Party → Effect
-move st p = record { event = ev.Moved; byte = 0; end = false; dropped = 0; passes = false; party = p; standing = st }
-
--- An effect whose event carries a byte with its END.
-abbrev pub say : Event → ℕ → Bool → Standing → Party → Effect
-say x v e st p = record { event = x; byte = v; end = e; dropped = 0; passes = false; party = p; standing = st }
+move st p = does (say ev.Moved 0 false 0) p st
 
 -- Source step.
 
 -- "put: to STRS, the byte stands"
 abbrev pub put : Kind → ℕ → Bool → Place → Party → Effect
-put k v e i p = say (putEvent k) v (endOf k e) (Byte i k v (endOf k e)) (afterPut k p)
+put k v e i p = does (say (putEvent k) v (endOf k e) 0) (afterPut k p) (Byte i k v (endOf k e))
 
 -- "event noacc, to SGNS, and the held byte is dropped if it was the one on offer"
 abbrev pub noacc : Kind → ℕ → Bool → Standing → Party → Effect
-noacc k v e st p = record { event = ev.Noacc; byte = v; end = endOf k e; dropped = noaccDrops k; passes = false; party = afterNoacc k p; standing = st }
+noacc k v e st p = does (say ev.Noacc v (endOf k e) (noaccDrops k)) (afterNoacc k p) st
 
 -- "SDYS: no byte on offer, to SGNS; else NRFD true, stay; else NDAC false, event noacc ..; else put"
 abbrev pub ready : Slot → Kind → Lines → Standing → Place → Party → Effect
@@ -50,10 +49,7 @@ heardBy v p = withRole (hear (meaning v) (p .role)) p
 abbrev pub ended : Standing → Party → Effect
 ended Nothing p = stay Nothing p
 ended (Byte s k v e) p = record {
-  event = ev.Ended;
-  byte = v;
-  end = e;
-  dropped = 0;
+  said = say ev.Ended v e 0;
   passes = ofCommand k && passesControl (meaning v);
   party = withSource Sgns (cond (ofCommand k) (heardBy v p) p);
   standing = Nothing;
@@ -73,8 +69,8 @@ abbrev pub take : Bool → Standing → Party → Effect
 take atn Nothing p = stay Nothing p
 take atn (Byte s k v e) p =
     cond atn
-    (say (hearEvent (meaning v) (p .role .listen)) v e (Byte s k v e) (withAcceptor Acds (heardBy v p)))
-    (say ev.Took v e (Byte s k v e) (withAcceptor Acds (withInput (Full v e) p)))
+    (does (say (hearEvent (meaning v) (p .role .listen)) v e 0) (withAcceptor Acds (heardBy v p)) (Byte s k v e))
+    (does (say ev.Took v e 0) (withAcceptor Acds (withInput (Full v e) p)) (Byte s k v e))
 
 -- "ANRS: to ACRS if ATN is true or data-in is empty. ACRS: if DAV, take and go to ACDS. ACDS: to AWNS. AWNS: to ANRS if DAV is false. AIDS: stay."
 abbrev pub acceptorStep : Acceptor → Lines → Standing → Party → Effect
@@ -94,8 +90,9 @@ effect l st i p =
 -- "when it ends, control goes to the talk-on party other than the sender, if there is one: that party is active, the sender idle, event passed"
 abbrev pub pass : Bus → ℕ → Effect → ℕ → Answer
 pass b i e j = attend b
-    (record { event = ev.Passed; byte = e .byte; end = e .end; dropped = heldBytes (e .party) + heldBytes (here b j); passes = false; party = e .party; standing = e .standing })
+    (say ev.Passed (e .said .byte) (e .said .end) (heldBytes (e .party) + heldBytes (here b j)))
     (set (set (b .parties) i (changeControl Idle (e .party))) j (changeControl Active (here b j)))
+    (e .standing)
 
 abbrev pub handOn : Bus → ℕ → Effect → Found → Answer
 handOn b i e Nowhere = touch b i e

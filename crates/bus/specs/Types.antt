@@ -30,4 +30,5 @@ pub use Rattle.bus.specs.declared.Refusal.the-variants as no
 pub use Rattle.bus.specs.declared.Answer.{Answer}
 pub use Rattle.bus.specs.declared.Call.{Call}
 pub use Rattle.bus.specs.declared.Call.the-variants as call-of
+pub use Rattle.bus.specs.declared.Said.{Said}
 pub use Rattle.bus.specs.declared.Effect.{Effect}

@@ -66,12 +66,17 @@ pub enum Call {
     Lines,
 }
 
-// What a call does to its own party and to what stands, before attention and settling.
-pub struct Effect {
+// What an answer says beside its refusal, its broken count and the bus.
+pub struct Said {
     pub event: Event,
     pub byte: u8,
     pub end: bool,
     pub dropped: u8,
+}
+
+// What a call does to its own party and to what stands, before attention and settling.
+pub struct Effect {
+    pub said: Said,
     // Control goes on, if another party talks.
     pub passes: bool,
     pub party: Party,
