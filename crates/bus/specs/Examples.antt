@@ -7,7 +7,7 @@ use mathlib.Core.Bool.{Bool, true, false}
 use mathlib.Core.List.{List, [], _∷_, map}
 use Rattle.parties.specs.Places.{place}
 use Rattle.bus.specs.Types.{Event, Bus, Answer, Call, Refusal}
-use Rattle.bus.specs.Types.no
+use Rattle.bus.specs.Types.ruling
 use Rattle.bus.specs.Types.ev
 use Rattle.bus.specs.Types.call-of
 use Rattle.bus.specs.Record.{build}
@@ -43,13 +43,13 @@ expected r = r .built ∷ map (λ c. c .1) (r .calls)
 
 -- The answers: nothing to say; moved; an event with its byte and END; a refusal.
 abbrev ok : Report
-ok = record { refusal = no.Accepted; event = ev.None; byte = 0; end = false; dropped = 0; broken = 0 }
+ok = record { refusal = ruling.Accepted; event = ev.None; byte = 0; end = false; dropped = 0; broken = 0 }
 
 abbrev moved : Report
-moved = record { refusal = no.Accepted; event = ev.Moved; byte = 0; end = false; dropped = 0; broken = 0 }
+moved = record { refusal = ruling.Accepted; event = ev.Moved; byte = 0; end = false; dropped = 0; broken = 0 }
 
 abbrev says : Event → ℕ → Bool → Report
-says x v e = record { refusal = no.Accepted; event = x; byte = v; end = e; dropped = 0; broken = 0 }
+says x v e = record { refusal = ruling.Accepted; event = x; byte = v; end = e; dropped = 0; broken = 0 }
 
 abbrev refused : Refusal → Report
 refused r = record { refusal = r; event = ev.None; byte = 0; end = false; dropped = 0; broken = 0 }
@@ -123,7 +123,7 @@ P3 =
     ∷ (step 0, says ev.Ended 0x41 false)
     ∷ (step 2, moved)
     ∷ (step 2, moved)
-    ∷ (read 2, refused no.Empty)
+    ∷ (read 2, refused ruling.Empty)
     ∷ (read 1, says ev.Read 0x41 false)
     ∷ (step 1, moved)
     ∷ (step 1, moved)
@@ -147,7 +147,7 @@ P4 =
     ∷ (step 1, moved)
     ∷ (step 1, moved)
     ∷ (step 1, ok)
-    ∷ (read 1, refused no.Empty)
+    ∷ (read 1, refused ruling.Empty)
     ∷ []))
     ∷ []
 
@@ -188,7 +188,7 @@ P6 =
     ∷ (step 1, moved)
     ∷ (step 1, says ev.Data 0x41 false)
     ∷ (step 2, says ev.Took 0x41 false)
-    ∷ (call-of.TakeControl (place 0), record { refusal = no.Accepted; event = ev.None; byte = 0; end = false; dropped = 0; broken = 1 })
+    ∷ (call-of.TakeControl (place 0), record { refusal = ruling.Accepted; event = ev.None; byte = 0; end = false; dropped = 0; broken = 1 })
     ∷ (call-of.Lines, says ev.Lines 0xb0 false)
     ∷ [])
     ∷ []
@@ -200,7 +200,7 @@ P7 =
     (talkOnly 0 1, ok)
     ∷ (write 0 0x41 1, ok)
     ∷ (step 0, moved)
-    ∷ (step 0, record { refusal = no.Accepted; event = ev.Noacc; byte = 0x41; end = true; dropped = 1; broken = 0 })
+    ∷ (step 0, record { refusal = ruling.Accepted; event = ev.Noacc; byte = 0x41; end = true; dropped = 1; broken = 0 })
     ∷ [])
     ∷ []
 
@@ -209,8 +209,8 @@ abbrev notBuilt : List ℕ → Run
 notBuilt addresses = record {
   addresses = addresses;
   system = 0;
-  built = refused no.BadBuild;
-  calls = (call-of.Lines, says ev.Lines 0 false) ∷ (step 0, refused no.NoParty) ∷ [];
+  built = refused ruling.BadBuild;
+  calls = (call-of.Lines, says ev.Lines 0 false) ∷ (step 0, refused ruling.NoParty) ∷ [];
 }
 
 -- "P8 address 30 built, 31 refused"
@@ -220,7 +220,7 @@ P8 = run (30 ∷ []) ((step 0, ok) ∷ []) ∷ notBuilt (31 ∷ []) ∷ []
 -- "P9 15 parties built, 16 refused"
 abbrev pub P9 : List Run
 P9 =
-    run (0 ∷ 1 ∷ 2 ∷ 3 ∷ 4 ∷ 5 ∷ 6 ∷ 7 ∷ 8 ∷ 9 ∷ 10 ∷ 11 ∷ 12 ∷ 13 ∷ 14 ∷ []) ((step 14, ok) ∷ (step 15, refused no.NoParty) ∷ [])
+    run (0 ∷ 1 ∷ 2 ∷ 3 ∷ 4 ∷ 5 ∷ 6 ∷ 7 ∷ 8 ∷ 9 ∷ 10 ∷ 11 ∷ 12 ∷ 13 ∷ 14 ∷ []) ((step 14, ok) ∷ (step 15, refused ruling.NoParty) ∷ [])
     ∷ notBuilt (0 ∷ 1 ∷ 2 ∷ 3 ∷ 4 ∷ 5 ∷ 6 ∷ 7 ∷ 8 ∷ 9 ∷ 10 ∷ 11 ∷ 12 ∷ 13 ∷ 14 ∷ 15 ∷ [])
     ∷ []
 
@@ -238,7 +238,7 @@ sends v rest =
 
 -- "P10 C5 is heard as talk address 5": party 1 talks, so that it may not listen.
 abbrev pub P10 : List Run
-P10 = run (4 ∷ 5 ∷ []) ((clear 0, ok) ∷ sends 0xc5 ((standby 0, ok) ∷ (listenOnly 1 1, refused no.Role) ∷ [])) ∷ []
+P10 = run (4 ∷ 5 ∷ []) ((clear 0, ok) ∷ sends 0xc5 ((standby 0, ok) ∷ (listenOnly 1 1, refused ruling.Role) ∷ [])) ∷ []
 
 -- "P11 standby under a standing command: 7"
 abbrev pub P11 : List Run
@@ -249,7 +249,7 @@ P11 =
     ∷ (step 1, moved)
     ∷ (step 0, moved)
     ∷ (step 0, says ev.Cmd 0x3f false)
-    ∷ (standby 0, refused no.Standing)
+    ∷ (standby 0, refused ruling.Standing)
     ∷ [])
     ∷ []
 

@@ -8,3 +8,4 @@ pub mod Calls
 pub mod Refusals
 pub mod Machine
 pub mod Examples
+pub mod Delivery

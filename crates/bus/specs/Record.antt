@@ -10,7 +10,7 @@ use Rattle.party.specs.Parts.{idle, newborn}
 use Rattle.parties.specs.Places.{place, at}
 use Rattle.parties.specs.Lines.{linesOf}
 use Rattle.bus.specs.Types.{Place, Party, Kind, Command, Data, Status, Lines, Standing, Nothing, Byte, Bus, Answer, Refusal}
-use Rattle.bus.specs.Types.no
+use Rattle.bus.specs.Types.ruling
 use Rattle.bus.specs.Types.ev
 
 -- The party at a place.
@@ -74,4 +74,4 @@ refuse r b = record { refusal = r; event = ev.None; byte = 0; end = false; dropp
 
 -- "except that a refused build .. leaves the bus of no parties". An accepted one has event none; settling leaves a bus just built as it is.
 abbrev pub build : List ℕ → Place → Answer
-build xs s = cond (badBuild xs s) (refuse no.BadBuild noParties) (refuse no.Accepted (built xs s))
+build xs s = cond (badBuild xs s) (refuse ruling.BadBuild noParties) (refuse ruling.Accepted (built xs s))

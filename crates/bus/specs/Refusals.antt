@@ -7,17 +7,17 @@ use Rattle.party.specs.Parts.{isFull}
 use Rattle.party.specs.Driving.{isActive}
 use Rattle.parties.specs.Places.{otherTalker, isFound}
 use Rattle.bus.specs.Types.{Place, Party, Control, Idle, Standby, Active, Bus, Call, Refusal}
-use Rattle.bus.specs.Types.no
+use Rattle.bus.specs.Types.ruling
 use Rattle.bus.specs.Types.call-of
 use Rattle.bus.specs.Record.{here, lines, sendsCommand}
 
 -- "NOPARTY: no such party"
 abbrev pub ofParty : Bus → Place → Refusal → Refusal
-ofParty b p r = cond (ltb (p .0) (b .count)) r no.NoParty
+ofParty b p r = cond (ltb (p .0) (b .count)) r ruling.NoParty
 
 -- "BADVALUE: .. switch or END not 0 or 1"
 abbrev pub ofSwitch : ℕ → Refusal → Refusal
-ofSwitch x r = cond (ltb 1 x) no.BadValue r
+ofSwitch x r = cond (ltb 1 x) ruling.BadValue r
 
 abbrev pub isOn : ℕ → Bool
 isOn x = eqb x 1
@@ -29,28 +29,28 @@ inStandby Active = false
 
 -- "ROLE: .. listen-only on while talk is on"
 abbrev pub listenRefusal : Bool → Bool → Refusal
-listenRefusal on talk = cond on (cond talk no.Role no.Accepted) no.Accepted
+listenRefusal on talk = cond on (cond talk ruling.Role ruling.Accepted) ruling.Accepted
 
 -- "ROLE: .. talk-only on while listen is on"; "ATTENTION: talk-only on under ATN"; "TALKER: talk-only on while another's talk is on"
 abbrev pub talkRefusal : Bool → Bool → Bool → Bool → Refusal
-talkRefusal on listen atn another = cond on (cond listen no.Role (cond atn no.Attention (cond another no.Talker no.Accepted))) no.Accepted
+talkRefusal on listen atn another = cond on (cond listen ruling.Role (cond atn ruling.Attention (cond another ruling.Talker ruling.Accepted))) ruling.Accepted
 
 -- "ROLE: .. go to standby not active"; "STANDING: go to standby .. by the sender of a standing command"
 abbrev pub standbyRefusal : Bool → Bool → Refusal
-standbyRefusal active sends = cond active (cond sends no.Standing no.Accepted) no.Role
+standbyRefusal active sends = cond active (cond sends ruling.Standing ruling.Accepted) ruling.Role
 
 -- The refusal of each call, or Accepted. "FULL: write with a byte held"; "EMPTY: read with no data-in"; "ROLE: take control not in standby; ..;
 -- clear not by system party"; "STANDING: .. reset by the sender of a standing command".
 abbrev pub refusal : Bus → Call → Refusal
-refusal b (call-of.Step p) = ofParty b p no.Accepted
-refusal b (call-of.Write p v e) = ofParty b p (ofSwitch e (cond (isFull (here b (p .0) .held)) no.Full no.Accepted))
-refusal b (call-of.Read p) = ofParty b p (cond (isFull (here b (p .0) .input)) no.Accepted no.Empty)
-refusal b (call-of.PollRegister p v) = ofParty b p no.Accepted
+refusal b (call-of.Step p) = ofParty b p ruling.Accepted
+refusal b (call-of.Write p v e) = ofParty b p (ofSwitch e (cond (isFull (here b (p .0) .held)) ruling.Full ruling.Accepted))
+refusal b (call-of.Read p) = ofParty b p (cond (isFull (here b (p .0) .input)) ruling.Accepted ruling.Empty)
+refusal b (call-of.PollRegister p v) = ofParty b p ruling.Accepted
 refusal b (call-of.ListenOnly p on) = ofParty b p (ofSwitch on (listenRefusal (isOn on) (here b (p .0) .role .talk)))
 refusal b (call-of.TalkOnly p on) = ofParty b p (ofSwitch on (talkRefusal (isOn on) (here b (p .0) .role .listen) (lines b .atn) (isFound (otherTalker (b .count) (p .0) (b .parties)))))
-refusal b (call-of.TakeControl p) = ofParty b p (cond (inStandby (here b (p .0) .control)) no.Accepted no.Role)
+refusal b (call-of.TakeControl p) = ofParty b p (cond (inStandby (here b (p .0) .control)) ruling.Accepted ruling.Role)
 refusal b (call-of.GoToStandby p) = ofParty b p (standbyRefusal (isActive (here b (p .0))) (sendsCommand (p .0) (b .standing)))
-refusal b (call-of.InterfaceClear p) = ofParty b p (cond (eqb (p .0) (b .system .0)) no.Accepted no.Role)
-refusal b (call-of.Reset p) = ofParty b p (cond (sendsCommand (p .0) (b .standing)) no.Standing no.Accepted)
-refusal b (call-of.Drop p) = ofParty b p no.Accepted
-refusal b call-of.Lines = no.Accepted
+refusal b (call-of.InterfaceClear p) = ofParty b p (cond (eqb (p .0) (b .system .0)) ruling.Accepted ruling.Role)
+refusal b (call-of.Reset p) = ofParty b p (cond (sendsCommand (p .0) (b .standing)) ruling.Standing ruling.Accepted)
+refusal b (call-of.Drop p) = ofParty b p ruling.Accepted
+refusal b call-of.Lines = ruling.Accepted

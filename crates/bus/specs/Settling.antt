@@ -10,7 +10,7 @@ use Rattle.party.specs.Sending.{isSource}
 use Rattle.party.specs.Settling.{attended, settled}
 use Rattle.parties.specs.Places.{at, some, each}
 use Rattle.bus.specs.Types.{Party, Event, Standing, Nothing, Byte, Bus, Answer, Said, Effect}
-use Rattle.bus.specs.Types.no
+use Rattle.bus.specs.Types.ruling
 use Rattle.bus.specs.Record.{stands}
 
 abbrev pub say : Event → ℕ → Bool → ℕ → Said
@@ -19,7 +19,7 @@ say x v e d = record { event = x; byte = v; end = e; dropped = d }
 -- "After each accepted call every party settles." `off` says that what stands is broken off.
 abbrev pub settleAs : Bool → Bool → Bus → Said → List Party → Standing → Answer
 settleAs atn off b s ps st = record {
-  refusal = no.Accepted;
+  refusal = ruling.Accepted;
   event = s .event;
   byte = s .byte;
   end = s .end;

@@ -26,7 +26,7 @@ pub use Rattle.bus.specs.declared.Standing.{Standing}
 pub use Rattle.bus.specs.declared.Standing.the-variants.{Nothing, Byte}
 pub use Rattle.bus.specs.declared.Bus.{Bus}
 pub use Rattle.bus.specs.declared.Refusal.{Refusal}
-pub use Rattle.bus.specs.declared.Refusal.the-variants as no
+pub use Rattle.bus.specs.declared.Refusal.the-variants as ruling
 pub use Rattle.bus.specs.declared.Answer.{Answer}
 pub use Rattle.bus.specs.declared.Call.{Call}
 pub use Rattle.bus.specs.declared.Call.the-variants as call-of

@@ -5,22 +5,22 @@ use Prim.Native.String.{String}
 use mathlib.Core.Bool.{Bool}
 use lib.Dec.{eqb}
 use Rattle.bus.specs.Types.{Refusal, Event}
-use Rattle.bus.specs.Types.no
+use Rattle.bus.specs.Types.ruling
 use Rattle.bus.specs.Types.ev
 
 -- The table of refusals; 0 is no refusal.
 abbrev pub refusalNumber : Refusal → ℕ
-refusalNumber no.Accepted = 0
-refusalNumber no.NoParty = 1
-refusalNumber no.BadBuild = 2
-refusalNumber no.BadValue = 3
-refusalNumber no.Role = 4
-refusalNumber no.Attention = 5
-refusalNumber no.Talker = 6
-refusalNumber no.Standing = 7
-refusalNumber no.Full = 8
-refusalNumber no.Empty = 9
-refusalNumber no.Record = 10
+refusalNumber ruling.Accepted = 0
+refusalNumber ruling.NoParty = 1
+refusalNumber ruling.BadBuild = 2
+refusalNumber ruling.BadValue = 3
+refusalNumber ruling.Role = 4
+refusalNumber ruling.Attention = 5
+refusalNumber ruling.Talker = 6
+refusalNumber ruling.Standing = 7
+refusalNumber ruling.Full = 8
+refusalNumber ruling.Empty = 9
+refusalNumber ruling.Record = 10
 
 abbrev pub isAccepted : Refusal → Bool
 isAccepted r = eqb (refusalNumber r) 0

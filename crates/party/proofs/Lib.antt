@@ -1,0 +1,4 @@
+-- Laws of one party, which the proofs of the crates above cite.
+pub mod Logic
+pub mod Roles
+pub mod Settled
