@@ -1,27 +1,122 @@
--- A bus just built has settled: settling it leaves it as it is.
+-- A bus just built: it has settled, and it keeps the invariant.
 -- Assumes nothing.
-use mathlib.Core.Path.{_≡_, refl, ap, _∙_}
-use mathlib.Core.Bool.{Bool, true, false}
+use mathlib.Core.Path.{_≡_, refl, sym, ap, _∙_}
+use mathlib.Core.Bool.{Bool, true, false, not, _||_}
 use mathlib.Core.List.{List, [], _∷_}
-use Prim.Native.Nat.{ℕ, zero, suc}
-use Rattle.party.specs.Parts.{idle, newborn}
+use Prim.Native.Nat.{ℕ, zero, suc, _≤_, _<_}
+use native.Mathlib.Omega.{arith}
+use native.Mathlib.Nat.{not-suc-le-zero, le-of-suc-le-suc}
+use lib.Dec.{ltb, eqb}
+use lib.ListN.{length, getD}
+use borrow.Author.Tests.{eq-eqb, ltb-true, ltb-false}
+use Rattle.message.specs.Meaning.{address}
+use Rattle.party.specs.Parts.{idle, isFull, heldBytes, newborn}
 use Rattle.party.specs.Driving.{isActive}
 use Rattle.party.specs.Settling.{settled}
+use Rattle.party.proofs.Logic.{no, test}
+use Rattle.party.proofs.Settled.{newborn-still}
 use Rattle.parties.specs.Places.{at, some, each}
-use Rattle.bus.specs.Types.{Address, Place, Nothing, Said}
-use Rattle.bus.specs.Record.{placed, built, build}
+use Rattle.parties.proofs.Places.{some-true, total-zero}
+use Rattle.bus.specs.Types.{Address, Place, Party, Strs, Aids, Acrs, Nothing, Bus, Said}
+use Rattle.bus.specs.Record.{here, placed, built, anyOver30, isAmong, twoEqual, badBuild}
 use Rattle.bus.specs.Settling.{settle}
+use Rattle.bus.specs.Delivery.{held}
+use Rattle.bus.proofs.Invariant.{busy, look, Pre, Inv, atnOf}
 
-pub newborn-still : (atn : Bool) (a : Address) → settled atn (newborn a) ≡ newborn a
-newborn-still true a = refl
-newborn-still false a = refl
-
+-- settling a bus just built leaves it as it is
 placed-still : (n m : ℕ) (atn : Bool) (xs : List ℕ) → each n (settled atn) (placed m xs) ≡ placed m xs
 placed-still zero m atn xs = refl
 placed-still (suc n) zero atn xs = refl
 placed-still (suc n) (suc m) atn [] = rw (newborn-still atn, placed-still n m atn []) refl
 placed-still (suc n) (suc m) atn (a ∷ xs) = rw (newborn-still atn, placed-still n m atn xs) refl
 
--- the answer of settling a bus just built, with nothing to say
 pub built-settled : (xs : List ℕ) (s : Place) (w : Said) → settle (built xs s) w (built xs s .parties) Nothing .bus ≡ built xs s
 built-settled xs s w = rw (placed-still _ 15 _ xs) refl
+
+-- the places
+placed-length : (n : ℕ) (xs : List ℕ) → length (placed n xs) ≡ n
+placed-length zero xs = refl
+placed-length (suc n) [] = ap suc (placed-length n [])
+placed-length (suc n) (a ∷ xs) = ap suc (placed-length n xs)
+
+placed-at : (n : ℕ) (xs : List ℕ) (j : ℕ) → j < length xs → length xs ≤ n → at (placed n xs) j ≡ newborn (address (getD xs j 0))
+placed-at n [] j h l = absurd (not-suc-le-zero h)
+placed-at zero (a ∷ xs) j h l = absurd (not-suc-le-zero l)
+placed-at (suc n) (a ∷ xs) zero h l = refl
+placed-at (suc n) (a ∷ xs) (suc j) h l = placed-at n xs j (le-of-suc-le-suc h) (le-of-suc-le-suc l)
+
+placed-past : (n : ℕ) (xs : List ℕ) (j : ℕ) → length xs ≤ j → at (placed n xs) j ≡ idle
+placed-past zero xs j h = refl
+placed-past (suc n) [] zero h = refl
+placed-past (suc n) [] (suc j) h = placed-past n [] j (omega arith)
+placed-past (suc n) (a ∷ xs) zero h = absurd (not-suc-le-zero h)
+placed-past (suc n) (a ∷ xs) (suc j) h = placed-past n xs j (le-of-suc-le-suc h)
+
+-- the addresses
+or-false : (x y : Bool) → (x || y) ≡ false → (x ≡ false) × (y ≡ false)
+or-false true y e = no (cc)
+or-false false y e = (refl, e)
+
+none-of : (a b c d e : Bool) → (a || b || c || d || e) ≡ false → (b ≡ false) × (d ≡ false)
+none-of a b c d e h = let x = or-false (a || b || c) d (or-false (a || b || c || d) e h .0) in (or-false a b (or-false (a || b) c (x .0) .0) .1, x .1)
+
+absent : (a : ℕ) (xs : List ℕ) → isAmong a xs ≡ false → (j : ℕ) → j < length xs → getD xs j 0 ≡ a → ⊥
+absent a [] e j h f = not-suc-le-zero h
+absent a (x ∷ xs) e zero h f = let z = or-false (eqb a x) (isAmong a xs) e .0 in let y = eq-eqb a x (sym f) in no (cc)
+absent a (x ∷ xs) e (suc j) h f = absent a xs (or-false (eqb a x) (isAmong a xs) e .1) j (le-of-suc-le-suc h) f
+
+distinct : (xs : List ℕ) → twoEqual xs ≡ false → (i j : ℕ) → i < length xs → j < length xs → getD xs i 0 ≡ getD xs j 0 → i ≡ j
+distinct [] e i j h k f = absurd (not-suc-le-zero h)
+distinct (a ∷ xs) e zero zero h k f = refl
+distinct (a ∷ xs) e zero (suc j) h k f = absurd (absent a xs (or-false (isAmong a xs) (twoEqual xs) e .0) j (le-of-suc-le-suc k) (sym f))
+distinct (a ∷ xs) e (suc i) zero h k f = absurd (absent a xs (or-false (isAmong a xs) (twoEqual xs) e .0) i (le-of-suc-le-suc h) f)
+distinct (a ∷ xs) e (suc i) (suc j) h k f = ap suc (distinct xs (or-false (isAmong a xs) (twoEqual xs) e .1) i j (le-of-suc-le-suc h) (le-of-suc-le-suc k) f)
+
+-- The bus that an accepted build gives.
+module _ (xs : List ℕ) (s : Place) (ok : badBuild xs s ≡ false) where
+  -- "over 15 parties", "two equal": it is neither
+  neither : (ltb 15 (length xs) ≡ false) × (twoEqual xs ≡ false)
+  neither = none-of (eqb (length xs) 0) (ltb 15 (length xs)) (anyOver30 xs) (twoEqual xs) (not (ltb (s .0) (length xs))) ok
+
+  fits : length xs ≤ 15
+  fits = ltb-false 15 (length xs) (neither .0)
+
+  -- every place holds a party just built
+  new : (j : ℕ) → (a : Address) × (here (built xs s) j ≡ newborn a)
+  new j = test (ltb j (length xs)) (λ h. (address (getD xs j 0), placed-at 15 xs j (ltb-true j (length xs) h) fits)) (λ h. (address 0, placed-past 15 xs j (ltb-false j (length xs) h)))
+
+  -- what holds of every party just built holds of every party
+  all-new : (R : Party → Type 0) → ((a : Address) → R (newborn a)) → (j : ℕ) → R (here (built xs s) j)
+  all-new R r j = let n = new j in rw (n .1) (r (n .0))
+
+  nobody : atnOf (built xs s) ≡ false
+  nobody = test (atnOf (built xs s)) (λ h. let r = some-true (length xs) isActive (placed 15 xs) h in let z = all-new (λ p. isActive p ≡ false) (λ a. refl) (r .0) in let y = r .1 in no (cc)) (λ h. h)
+
+  fresh-pre : Pre (length xs) (atnOf (built xs s)) (here (built xs s)) Nothing
+  fresh-pre = record {
+    tail = λ j h. placed-past 15 xs j h;
+    atnIf = all-new (λ p. isActive p ≡ true → atnOf (built xs s) ≡ true) (λ a h. no (cc));
+    charge = λ i j. all-new (λ p. busy (p .control) ≡ true → busy (here (built xs s) j .control) ≡ true → i ≡ j) (λ a h. no (cc)) i;
+    addr = λ i j h k e. distinct xs (neither .1) i j h k (sym (ap (λ (p : Party). p .role .address .0) (placed-at 15 xs i h fits)) ∙ e ∙ ap (λ (p : Party). p .role .address .0) (placed-at 15 xs j k fits));
+    sends = λ j. all-new (λ p. p .source ≡ Strs → false ≡ true) (λ a h. no (cc)) j;
+    sent = λ j h. no (cc);
+    kind = λ h. no (cc);
+    leads = λ h. no (cc);
+    noAnrs = λ h. no (cc);
+    active = λ j. all-new (λ p. isActive p ≡ true → p .acceptor ≡ Aids) (λ a h. refl) j;
+    others = λ h. let z = nobody in no (cc);
+    listens = λ h j. all-new (λ p. p .role .listen ≡ false → p .acceptor ≡ Aids) (λ a e. refl) j;
+    joins = λ h j. all-new (λ p. p .role .listen ≡ true → p .acceptor ≡ Aids → ⊥) (λ a e. no (cc)) j;
+    heard = record { one = λ i j. all-new (λ p. p .role .talk ≡ true → here (built xs s) j .role .talk ≡ true → i ≡ j) (λ a h. no (cc)) i };
+    apart = all-new (λ p. p .role .talk ≡ true → p .role .listen ≡ true → ⊥) (λ a h. no (cc));
+    empty = λ h. all-new (λ p. p .acceptor ≡ Acrs → isFull (p .input) ≡ false) (λ a e. refl);
+    plain = λ h. no (cc);
+    polled = λ j h. no (cc);
+    polls = λ j h. no (cc);
+  }
+
+  pub built-inv : Inv (built xs s)
+  built-inv = record { size = placed-length 15 xs; small = fits; pre = fresh-pre; still = all-new (λ p. settled (atnOf (built xs s)) p ≡ p) (newborn-still (atnOf (built xs s))) }
+
+  pub built-held : held (built xs s) ≡ 0
+  built-held = total-zero (length xs) heldBytes (placed 15 xs) (all-new (λ p. heldBytes p ≡ 0) (λ a. refl))

@@ -1,3 +1,19 @@
 -- The proofs about the machine.
-pub mod Building
 pub mod Examples
+pub mod Invariant
+pub mod Change
+pub mod Putting
+pub mod Attention
+pub mod Summary
+pub mod OneParty
+pub mod Rulings
+pub mod HostCalls
+pub mod Switches
+pub mod ControlCalls
+pub mod AcceptorStep
+pub mod Passing
+pub mod SourceStep
+pub mod EachCall
+pub mod Ledger
+pub mod Building
+pub mod Theorem

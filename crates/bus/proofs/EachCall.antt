@@ -1,0 +1,95 @@
+-- Every call keeps the invariant and has its summary; so has every call of a list. And the totals.
+-- Assumes nothing.
+use mathlib.Core.Path.{_≡_, refl}
+use mathlib.Core.Bool.{true}
+use mathlib.Core.List.{List, [], _∷_}
+use Prim.Native.Nat.{ℕ, zero, suc, _+_, _<_}
+use native.Mathlib.Omega.{arith}
+use native.Mathlib.Nat.{not-suc-le-zero, le-of-suc-le-suc}
+use lib.ListN.{length, getD}
+use Rattle.party.specs.Parts.{one}
+use Rattle.party.specs.Sending.{isSource}
+use Rattle.party.proofs.Logic.{cond-elim}
+use Rattle.parties.specs.Places.{place}
+use Rattle.bus.specs.Types.{Place, Bus, Answer, Call, Standing, Effect}
+use Rattle.bus.specs.Types.ruling
+use Rattle.bus.specs.Types.call-of
+use Rattle.bus.specs.Words.{isAccepted}
+use Rattle.bus.specs.Record.{here, stands, lines}
+use Rattle.bus.specs.Step.{step, turn}
+use Rattle.bus.specs.Refusals.{refusal}
+use Rattle.bus.specs.Machine as m
+use Rattle.bus.specs.Delivery.{Moment, history, isPut, isEnd, isHostPut, wrote, tally, held}
+use Rattle.bus.proofs.Invariant.{Inv, atnOf}
+use Rattle.bus.proofs.Rulings.{known}
+use Rattle.bus.proofs.Summary.{Good, Shape, keeps, puts, ends, breaks}
+use Rattle.bus.proofs.OneParty.{ruled}
+use Rattle.bus.proofs.HostCalls.{write-good, read-good, poll-good, drop-good}
+use Rattle.bus.proofs.Switches.{listen-good, talk-good}
+use Rattle.bus.proofs.ControlCalls.{take-good, standby-good, reset-good, clear-good, lines-good}
+use Rattle.bus.proofs.AcceptorStep.{accept-good}
+use Rattle.bus.proofs.SourceStep.{source-good}
+
+step-good : (b : Bus) → Inv b → (p : Place) → isAccepted (refusal b (call-of.Step p)) ≡ true → Good b (call-of.Step p) (step b (p .0))
+step-good b I p ok = let l = known b p ruling.Accepted ok .0 in
+    cond-elim (λ (e : Effect). Good b (call-of.Step p) (turn b (p .0) e)) (isSource (atnOf b) (here b (p .0)))
+    (λ so. source-good b I p l so (here b (p .0) .source) refl)
+    (λ ns. accept-good b I p l ns (here b (p .0) .acceptor) refl)
+
+accepted-good : (b : Bus) → Inv b → (c : Call) → isAccepted (refusal b c) ≡ true → Good b c (m.accepted b c)
+accepted-good b I (call-of.Step p) = step-good b I p
+accepted-good b I (call-of.Write p v e) = write-good b I p v e
+accepted-good b I (call-of.Read p) = read-good b I p
+accepted-good b I (call-of.PollRegister p v) = poll-good b I p v
+accepted-good b I (call-of.ListenOnly p on) = listen-good b I p on
+accepted-good b I (call-of.TalkOnly p on) = talk-good b I p on
+accepted-good b I (call-of.TakeControl p) = take-good b I p
+accepted-good b I (call-of.GoToStandby p) = standby-good b I p
+accepted-good b I (call-of.InterfaceClear p) = clear-good b I p
+accepted-good b I (call-of.Reset p) = reset-good b I p
+accepted-good b I (call-of.Drop p) = drop-good b I p
+accepted-good b I call-of.Lines = λ _. lines-good b I
+
+pub call-good : (b : Bus) → Inv b → (c : Call) → Good b c (m.call b c)
+call-good b I c = ruled b c I (refusal b c) (m.accepted b c) (accepted-good b I c)
+
+-- the invariant at the end of a list
+pub run-inv : (b : Bus) → Inv b → (cs : List Call) → Inv (m.run b cs)
+run-inv b I [] = I
+run-inv b I (c ∷ cs) = run-inv (m.call b c .bus) (call-good b I c .inv) cs
+
+-- every call of a list, with d for what stands past its end
+pub all-good : (b : Bus) → Inv b → (cs : List Call) (d : Moment) (k : ℕ) → k < length cs → Good (getD (history b cs) k d .before) (getD (history b cs) k d .call) (getD (history b cs) k d .answer)
+all-good b I [] d k h = absurd (not-suc-le-zero h)
+all-good b I (c ∷ cs) d zero h = call-good b I c
+all-good b I (c ∷ cs) d (suc k) h = all-good (m.call b c .bus) (call-good b I c .inv) cs d k (le-of-suc-le-suc h)
+
+-- each call gets the bus of the answer before
+pub linked : (b : Bus) (cs : List Call) (d : Moment) (k : ℕ) → suc k < length cs → getD (history b cs) (suc k) d .before ≡ getD (history b cs) k d .answer .bus
+linked b [] d k h = absurd (not-suc-le-zero h)
+linked b (c ∷ []) d k h = absurd (not-suc-le-zero (le-of-suc-le-suc h))
+linked b (c ∷ (e ∷ cs)) d zero h = refl
+linked b (c ∷ (e ∷ cs)) d (suc k) h = linked (m.call b c .bus) (e ∷ cs) d k (le-of-suc-le-suc h)
+
+pub first : (b : Bus) (cs : List Call) (d : Moment) → d .before ≡ b → getD (history b cs) 0 d .before ≡ b
+first b [] d e = e
+first b (c ∷ cs) d e = refl
+
+-- the totals, from any bus
+shape-total : (st : Standing) (c : Call) (a : Answer) → Shape st c a → one (isPut (a .event)) + one (stands st) ≡ one (isEnd (a .event)) + a .broken + one (stands (a .bus .standing))
+shape-total st c a (keeps p e k s) = rw (p, e, k, s) refl
+shape-total st c a (puts p e k n r d w s) = rw (p, e, k, n, s) refl
+shape-total st c a (ends p e k r d w n s) = rw (p, e, k, n, s) refl
+shape-total st c a (breaks p e k u s) = rw (p, e, k, u, s) refl
+
+pub put-total : (b : Bus) → Inv b → (cs : List Call)
+    → tally (λ x. one (isPut (x .answer .event))) (history b cs) + one (stands (b .standing))
+    ≡ tally (λ x. one (isEnd (x .answer .event))) (history b cs) + tally (λ x. x .answer .broken) (history b cs) + one (stands (m.run b cs .standing))
+put-total b I [] = refl
+put-total b I (c ∷ cs) = let g = call-good b I c in let h = shape-total (b .standing) c (m.call b c) (g .shape) in let k = put-total (m.call b c .bus) (g .inv) cs in omega arith
+
+pub byte-total : (b : Bus) → Inv b → (cs : List Call)
+    → tally (λ x. wrote (x .call) (x .answer .refusal)) (history b cs) + held b
+    ≡ tally (λ x. one (isHostPut (x .answer .event))) (history b cs) + tally (λ x. x .answer .dropped) (history b cs) + held (m.run b cs)
+byte-total b I [] = refl
+byte-total b I (c ∷ cs) = let g = call-good b I c in let h = g .bytes in let k = byte-total (m.call b c .bus) (g .inv) cs in omega arith
