@@ -1,8 +1,8 @@
 -- The acceptor step: a move of the acceptor, a taking as data, a command heard.
 -- Assumes nothing.
 use mathlib.Core.Path.{_≡_, refl, sym, ap, _∙_, subst}
-use mathlib.Core.Bool.{Bool, true, false, not, cond, _&&_, _||_}
-use mathlib.Core.Logic.{_⊎_, inl, inr}
+use mathlib.Core.Bool.{Bool, true, false, not, _||_}
+use mathlib.Core.Logic.{inl, inr}
 use Prim.Native.Nat.{ℕ, _<_}
 use Rattle.message.specs.Meaning.{meaning}
 use Rattle.party.specs.Parts.{isFull, withAcceptor, withInput}

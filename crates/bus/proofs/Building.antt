@@ -15,13 +15,13 @@ use Rattle.party.specs.Driving.{isActive}
 use Rattle.party.specs.Settling.{settled}
 use Rattle.party.proofs.Logic.{no, test}
 use Rattle.party.proofs.Settled.{newborn-still}
-use Rattle.parties.specs.Places.{at, some, each}
+use Rattle.parties.specs.Places.{at, each}
 use Rattle.parties.proofs.Places.{some-true, total-zero}
-use Rattle.bus.specs.Types.{Address, Place, Party, Strs, Aids, Acrs, Nothing, Bus, Said}
+use Rattle.bus.specs.Types.{Address, Place, Party, Strs, Aids, Acrs, Nothing, Said}
 use Rattle.bus.specs.Record.{here, placed, built, anyOver30, isAmong, twoEqual, badBuild}
 use Rattle.bus.specs.Settling.{settle}
 use Rattle.bus.specs.Delivery.{held}
-use Rattle.bus.proofs.Invariant.{busy, look, Pre, Inv, atnOf}
+use Rattle.bus.proofs.Invariant.{busy, Pre, Inv, atnOf}
 
 -- settling a bus just built leaves it as it is
 placed-still : (n m : ℕ) (atn : Bool) (xs : List ℕ) → each n (settled atn) (placed m xs) ≡ placed m xs

@@ -1,6 +1,6 @@
 -- One party changes and what stands stays: what the change must keep for the invariant to hold.
 -- Assumes nothing.
-use mathlib.Core.Path.{_≡_, refl, sym, ap, _∙_}
+use mathlib.Core.Path.{_≡_, refl, sym, _∙_}
 use mathlib.Core.Bool.{Bool, true, false, cond}
 use Prim.Native.Nat.{ℕ, _≤_, _<_}
 use native.Mathlib.Omega.{arith}
@@ -9,7 +9,6 @@ use borrow.Author.Tests.{eqb-true, eqb-false}
 use Rattle.party.specs.Parts.{idle, isFull}
 use Rattle.party.specs.Driving.{isActive}
 use Rattle.party.specs.Sending.{isSource, isPolled}
-use Rattle.party.proofs.Logic.{no}
 use Rattle.party.proofs.Roles.{nameOf, Single, Apart, Addressed, Weak, weak-same, weaken}
 use Rattle.parties.proofs.Places.{upd}
 use Rattle.bus.specs.Types.{Party, Strs, Aids, Anrs, Acrs, Role, Standing}

@@ -3,29 +3,27 @@
 use mathlib.Core.Path.{_≡_, refl, sym, ap, _∙_, subst}
 use mathlib.Core.Bool.{Bool, true, false, not, cond, _&&_, _||_}
 use mathlib.Core.List.{List}
-use mathlib.Core.Logic.{inl, inr}
+use mathlib.Core.Logic.{inr}
 use Prim.Native.Nat.{ℕ, _+_, _≤_, _<_}
 use native.Mathlib.Omega.{arith}
 use lib.Dec.{eqb}
 use lib.ListN.{length, set, length-set}
 use borrow.Author.Tests.{eq-eqb}
-use Rattle.party.specs.Parts.{idle, isFull, one, heldBytes, withAcceptor, withHeld}
+use Rattle.party.specs.Parts.{idle, isFull, one, heldBytes, withAcceptor}
 use Rattle.party.specs.Driving.{isActive}
-use Rattle.party.specs.Sending.{isSource, isPolled}
 use Rattle.party.specs.Settling.{changeControl, settled}
 use Rattle.party.proofs.Logic.{no, test, cond-elim}
 use Rattle.party.proofs.Roles.{nameOf, Single, Weak, weak-unaddressed}
-use Rattle.parties.specs.Places.{at, some, each, total}
+use Rattle.parties.specs.Places.{at, each, total}
 use Rattle.parties.specs.Lines.{linesByte}
 use Rattle.parties.proofs.Places.{upd, at-set, at-each-all, length-each, total-set, total-each, total-split}
-use Rattle.bus.specs.Types.{Place, Party, Control, Idle, Standby, Active, Acceptor, Aids, Anrs, Acrs, Acds, Empty, Kind, Command, Data, Status, Standing, Nothing, Byte, Bus, Said, Call, Refusal}
+use Rattle.bus.specs.Types.{Place, Party, Control, Idle, Standby, Active, Aids, Anrs, Acrs, Acds, Empty, Command, Data, Status, Standing, Nothing, Byte, Bus, Said, Call}
 use Rattle.bus.specs.Types.ruling
 use Rattle.bus.specs.Types.ev
 use Rattle.bus.specs.Types.call-of
 use Rattle.bus.specs.Words.{isAccepted}
-use Rattle.bus.specs.Record.{here, stands, lines, sendsCommand, ofCommand}
+use Rattle.bus.specs.Record.{here, lines, sendsCommand}
 use Rattle.bus.specs.Settling.{say, settleAs, alarm, touch, deserted}
-use Rattle.bus.specs.Step.{does}
 use Rattle.bus.specs.Calls.{joining, quiet, controlled, wiped, resetAcceptor, cleared, clearDrops, linesAnswer}
 use Rattle.bus.specs.Refusals.{inStandby, standbyRefusal, refusal}
 use Rattle.bus.specs.Machine.{accepted}

@@ -10,12 +10,11 @@ use lib.ListN.{length, getD}
 use Rattle.party.specs.Parts.{one}
 use Rattle.party.specs.Sending.{isSource}
 use Rattle.party.proofs.Logic.{cond-elim}
-use Rattle.parties.specs.Places.{place}
 use Rattle.bus.specs.Types.{Place, Bus, Answer, Call, Standing, Effect}
 use Rattle.bus.specs.Types.ruling
 use Rattle.bus.specs.Types.call-of
 use Rattle.bus.specs.Words.{isAccepted}
-use Rattle.bus.specs.Record.{here, stands, lines}
+use Rattle.bus.specs.Record.{here, stands}
 use Rattle.bus.specs.Step.{step, turn}
 use Rattle.bus.specs.Refusals.{refusal}
 use Rattle.bus.specs.Machine as m

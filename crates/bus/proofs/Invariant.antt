@@ -7,7 +7,7 @@ use Prim.Native.Nat.{ℕ, _≤_, _<_}
 use native.Mathlib.Omega.{arith}
 use lib.ListN.{length}
 use lib.Dec.{eqb}
-use borrow.Author.Tests.{eqb-true, eqb-false, eq-eqb}
+use borrow.Author.Tests.{eqb-true, eq-eqb}
 use Rattle.message.specs.Meaning.{meaning}
 use Rattle.message.specs.declared.Meaning.the-variants.{Other}
 use Rattle.party.specs.Parts.{idle, isFull}
@@ -15,12 +15,12 @@ use Rattle.party.specs.Driving.{isActive}
 use Rattle.party.specs.Hearing.{hear}
 use Rattle.party.specs.Sending.{isSource, isPolled}
 use Rattle.party.specs.Settling.{settled}
-use Rattle.party.proofs.Logic.{no, test}
-use Rattle.party.proofs.Roles.{nameOf, Single, Apart, Addressed, Weak, weak-same, weaken}
+use Rattle.party.proofs.Logic.{no}
+use Rattle.party.proofs.Roles.{Single, Apart, Addressed, weak-same, weaken}
 use Rattle.party.proofs.Settled.{newborn-still, settled-strs, settled-keeps, settled-other, settled-twice, source-of-active}
 use Rattle.parties.specs.Places.{at, some, each}
-use Rattle.parties.proofs.Places.{upd, at-each-all, some-each, length-each}
-use Rattle.bus.specs.Types.{Address, Party, Control, Idle, Standby, Active, Source, Sids, Sgns, Sdys, Strs, Acceptor, Aids, Anrs, Acrs, Acds, Awns, Kind, Command, Data, Status, Meaning, Role, Standing, Nothing, Byte, Bus, Said}
+use Rattle.parties.proofs.Places.{at-each-all, some-each, length-each}
+use Rattle.bus.specs.Types.{Party, Control, Idle, Standby, Active, Sids, Strs, Acceptor, Aids, Anrs, Acrs, Acds, Awns, Kind, Command, Data, Status, Meaning, Role, Standing, Nothing, Byte, Bus, Said}
 use Rattle.bus.specs.Record.{here, stands, hasEnd, ofCommand}
 use Rattle.bus.specs.Settling.{deserted, settle}
 

@@ -15,7 +15,7 @@ use Rattle.bus.specs.Types.ruling
 use Rattle.bus.specs.Types.ev
 use Rattle.bus.specs.Types.call-of
 use Rattle.bus.specs.Words.{isAccepted}
-use Rattle.bus.specs.Record.{here, stands, refuse}
+use Rattle.bus.specs.Record.{here, stands}
 use Rattle.bus.specs.Settling.{say, touch}
 use Rattle.bus.specs.Step.{does, stay}
 use Rattle.bus.specs.Machine.{judged}

@@ -1,14 +1,13 @@
 -- TCT has ended: control goes to the talker, and the sender is idle.
 -- Assumes nothing.
 use mathlib.Core.Path.{_≡_, refl, sym, ap, _∙_, subst}
-use mathlib.Core.Bool.{Bool, true, false, cond}
-use mathlib.Core.List.{List}
+use mathlib.Core.Bool.{Bool, true, false}
 use Prim.Native.Nat.{ℕ, _+_, _≤_, _<_}
 use native.Mathlib.Omega.{arith}
 use lib.ListN.{length, set, length-set}
-use lib.Dec.{ltb, eqb}
+use lib.Dec.{ltb}
 use lib.Seq.{getD-set-other}
-use borrow.Author.Tests.{eqb-true, eq-eqb, ltb-true, ltb-false}
+use borrow.Author.Tests.{eq-eqb, ltb-true, ltb-false}
 use Rattle.message.specs.Meaning.{meaning}
 use Rattle.party.specs.Parts.{idle, heldBytes, withSource}
 use Rattle.party.specs.Driving.{isActive}
@@ -18,14 +17,14 @@ use Rattle.party.proofs.Logic.{no, test, cond-elim}
 use Rattle.party.proofs.Roles.{nameOf, Single, hear-single, hear-name, hear-passes}
 use Rattle.parties.specs.Places.{at, total, otherTalker}
 use Rattle.parties.proofs.Places.{upd, at-set, total-set, first-found}
-use Rattle.bus.specs.Types.{Place, Party, Role, Idle, Active, Sgns, Found, At, Command, Standing, Nothing, Byte, Bus}
+use Rattle.bus.specs.Types.{Place, Party, Role, Idle, Active, Sgns, At, Command, Nothing, Byte, Bus}
 use Rattle.bus.specs.Types.ev
 use Rattle.bus.specs.Types.call-of
 use Rattle.bus.specs.Record.{here, lines}
 use Rattle.bus.specs.Settling.{say}
 use Rattle.bus.specs.Step.{heardBy, pass}
 use Rattle.bus.specs.Delivery.{held}
-use Rattle.bus.proofs.Invariant.{busy, active-busy, sentBy, waits, look, Inv}
+use Rattle.bus.proofs.Invariant.{busy, active-busy, waits, look, Inv}
 use Rattle.bus.proofs.Change.{upd-all, Unique, upd-unique, same-apart}
 use Rattle.bus.proofs.Attention.{Raw}
 use Rattle.bus.proofs.Summary.{Good, inside, set-held, pass-good}

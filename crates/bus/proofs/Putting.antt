@@ -1,7 +1,7 @@
 -- A byte is put, and a byte ends: what becomes of the invariant.
 -- Assumes nothing.
 use mathlib.Core.Path.{_≡_, refl, sym, ap, _∙_}
-use mathlib.Core.Bool.{Bool, true, false, cond, _&&_, _||_}
+use mathlib.Core.Bool.{Bool, true, false, _&&_, _||_}
 use mathlib.Core.Logic.{_⊎_, inl, inr}
 use Prim.Native.Nat.{ℕ, _≤_, _<_}
 use native.Mathlib.Omega.{arith}
@@ -18,7 +18,7 @@ use Rattle.parties.specs.Places.{place}
 use Rattle.parties.proofs.Places.{upd}
 use Rattle.bus.specs.Types.{Party, Sgns, Strs, Acceptor, Aids, Anrs, Acrs, Acds, Awns, Kind, Role, Standing, Nothing, Byte}
 use Rattle.bus.specs.Record.{ofCommand}
-use Rattle.bus.proofs.Invariant.{busy, active-busy, sentBy, ofStatus, ofData, standsOf, isCommand, codeOf, inAcrs, is-acrs, waits, look, look-idle, same-heard, Pre, Quiet}
+use Rattle.bus.proofs.Invariant.{busy, active-busy, sentBy, ofStatus, ofData, isCommand, codeOf, inAcrs, is-acrs, waits, look, look-idle, same-heard, Pre, Quiet}
 use Rattle.bus.proofs.Change.{upd-all, Unique, upd-unique, upd-apart}
 
 -- with ATN false nothing that stands is a command

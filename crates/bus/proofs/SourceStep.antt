@@ -1,7 +1,7 @@
 -- The source step: a put, noacc, the end of a byte.
 -- Assumes nothing.
 use mathlib.Core.Path.{_≡_, refl, sym, ap, _∙_, subst}
-use mathlib.Core.Bool.{Bool, true, false, not, cond, _&&_, _||_}
+use mathlib.Core.Bool.{Bool, true, false}
 use mathlib.Core.Logic.{_⊎_, inl, inr}
 use Prim.Native.Nat.{ℕ, _+_, _<_}
 use native.Mathlib.Omega.{arith}
@@ -10,19 +10,19 @@ use Rattle.message.specs.Meaning.{meaning}
 use Rattle.party.specs.Parts.{isFull, one, heldBytes, withSource, withHeld}
 use Rattle.party.specs.Driving.{isActive, drivesNrfd}
 use Rattle.party.specs.Hearing.{hear, passesControl}
-use Rattle.party.specs.Sending.{isSource, isPolled, offer, kindOf, endOf, putEvent, afterPut, afterNoacc, noaccDrops}
-use Rattle.party.proofs.Logic.{no, test, cond-elim, both}
+use Rattle.party.specs.Sending.{isSource, isPolled, offer, kindOf, afterPut, afterNoacc}
+use Rattle.party.proofs.Logic.{no, cond-elim}
 use Rattle.party.proofs.Settled.{source-case}
-use Rattle.parties.specs.Places.{place, some, otherTalker}
+use Rattle.parties.specs.Places.{place, otherTalker}
 use Rattle.parties.proofs.Places.{some-none}
-use Rattle.bus.specs.Types.{Place, Party, Source, Sids, Sgns, Sdys, Strs, Acrs, Slot, Empty, Full, Kind, Command, Data, Status, Event, Found, Nowhere, At, Standing, Nothing, Byte, Bus, Effect}
+use Rattle.bus.specs.Types.{Place, Party, Source, Sids, Sgns, Sdys, Strs, Slot, Empty, Full, Kind, Command, Data, Status, Event, Found, Nowhere, At, Standing, Nothing, Byte, Bus, Effect}
 use Rattle.bus.specs.Types.ev
 use Rattle.bus.specs.Types.call-of
 use Rattle.bus.specs.Record.{here, lines, ofCommand}
 use Rattle.bus.specs.Settling.{say, touch}
 use Rattle.bus.specs.Step.{does, stay, put, noacc, ready, heardBy, ended, sourceStep, handOn, turn}
 use Rattle.bus.specs.Delivery.{isPut, isEnd, isTake, isHostPut}
-use Rattle.bus.proofs.Invariant.{sentBy, ofStatus, ofData, isCommand, waits, look, look-idle, Pre, Inv, atnOf, quiet}
+use Rattle.bus.proofs.Invariant.{sentBy, look, look-idle, Pre, Inv, atnOf, quiet}
 use Rattle.bus.proofs.Putting.{Fit, put-pre, end-pre, nothing-stands, look-on}
 use Rattle.bus.proofs.Summary.{Good, put-good, end-good, none-ready}
 use Rattle.bus.proofs.OneParty.{Plain, plain-good, plain-same, plain-source, step-caller, stay-good}

@@ -1,7 +1,7 @@
 -- The summary of one call: what the ledger reads of it. The lemmas below make it for each way in which a call ends.
 -- Assumes nothing.
 use mathlib.Core.Path.{_≡_, refl, sym, ap, _∙_, subst, subst₂}
-use mathlib.Core.Bool.{Bool, true, false, not, cond}
+use mathlib.Core.Bool.{Bool, true, false, not}
 use mathlib.Core.List.{List}
 use mathlib.Core.Logic.{_⊎_, inl, inr}
 use Prim.Native.Nat.{ℕ, _+_, _≤_, _<_}
@@ -19,13 +19,12 @@ use Rattle.party.proofs.Roles.{Addressed}
 use Rattle.party.proofs.Settled.{newborn-still}
 use Rattle.parties.specs.Places.{place, at, some, each, total}
 use Rattle.parties.proofs.Places.{upd, Tail, at-set, at-each-all, some-set, some-none, total-set, total-each}
-use Rattle.bus.specs.Types.{Place, Party, Acceptor, Acrs, Acds, Slot, Full, Kind, Event, Standing, Nothing, Byte, Bus, Said, Answer, Call, Refusal}
+use Rattle.bus.specs.Types.{Place, Party, Acrs, Acds, Full, Kind, Event, Standing, Nothing, Byte, Bus, Said, Answer, Call, Refusal}
 use Rattle.bus.specs.Types.ruling
 use Rattle.bus.specs.Types.ev
 use Rattle.bus.specs.Types.call-of
-use Rattle.bus.specs.Words.{isAccepted}
 use Rattle.bus.specs.Record.{here, stands, refuse}
-use Rattle.bus.specs.Settling.{say, settleAs, settle, attend, touch, deserted}
+use Rattle.bus.specs.Settling.{say, settleAs, attend, touch, deserted}
 use Rattle.bus.specs.Step.{does}
 use Rattle.bus.specs.Delivery.{isPut, isEnd, isTake, isHostPut, wrote, held}
 use Rattle.bus.proofs.Invariant.{look, Pre, Inv, atnOf, settle-inv}

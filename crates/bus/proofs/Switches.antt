@@ -1,20 +1,20 @@
 -- The switches of the host: listen-only and talk-only.
 -- Assumes nothing.
-use mathlib.Core.Path.{_≡_, refl, sym, ap, _∙_}
-use mathlib.Core.Bool.{Bool, true, false, not, cond, _&&_, _||_}
+use mathlib.Core.Path.{_≡_, refl, ap}
+use mathlib.Core.Bool.{Bool, true, false, not, _&&_, _||_}
 use mathlib.Core.Logic.{_⊎_, inl, inr}
 use Prim.Native.Nat.{ℕ, _<_}
 use lib.ListN.{set}
 use lib.Dec.{ltb}
 use lib.Seq.{getD-set-other}
 use borrow.Author.Tests.{ltb-true, ltb-false}
-use Rattle.party.specs.Parts.{idle, isFull, withFlags, withRole, withAcceptor}
+use Rattle.party.specs.Parts.{idle, withFlags, withRole, withAcceptor}
 use Rattle.party.specs.Driving.{isActive}
 use Rattle.party.specs.Sending.{isSource, isPolled}
 use Rattle.party.proofs.Logic.{no, test, cond-elim, cond-elim₂}
 use Rattle.party.proofs.Roles.{Addressed, Weak, weak-flags, hear-weak, Single}
 use Rattle.party.proofs.Settled.{source-case, source-of-active}
-use Rattle.parties.specs.Places.{place, otherTalker, isFound, firstFrom}
+use Rattle.parties.specs.Places.{place, otherTalker, isFound}
 use Rattle.parties.proofs.Places.{upd, first-none}
 use Rattle.bus.specs.Types.{Place, Party, Strs, Acceptor, Aids, Anrs, Acrs, Acds, Found, Nowhere, At, Bus, Call}
 use Rattle.bus.specs.Types.ruling
@@ -24,17 +24,17 @@ use Rattle.bus.specs.Words.{isAccepted}
 use Rattle.bus.specs.Record.{here, stands, lines}
 use Rattle.bus.specs.Settling.{say, touch}
 use Rattle.bus.specs.Step.{does}
-use Rattle.bus.specs.Calls.{joining, listenAcceptor}
+use Rattle.bus.specs.Calls.{joining}
 use Rattle.bus.specs.Refusals.{ofSwitch, isOn, listenRefusal, talkRefusal, refusal}
 use Rattle.bus.specs.Machine.{accepted}
 use Rattle.bus.specs.Delivery.{wrote}
 use Rattle.bus.proofs.Invariant.{isCommand, codeOf, waits, look, look-idle, same-heard, Inv, atnOf}
 use Rattle.bus.proofs.Invariant as invariant
-use Rattle.bus.proofs.Change.{Kept, weak-look, upd-unique}
+use Rattle.bus.proofs.Change.{weak-look, upd-unique}
 use Rattle.bus.proofs.Putting.{role-heard, off-command}
-use Rattle.bus.proofs.Rulings.{if-not, known, switched, off-is-0, stands-dav, joining-away, joining-dav}
+use Rattle.bus.proofs.Rulings.{known, switched, off-is-0, stands-dav, joining-away, joining-dav}
 use Rattle.bus.proofs.Summary.{Good, Word, Left, kept-good}
-use Rattle.bus.proofs.OneParty.{Seated, seated-good}
+use Rattle.bus.proofs.OneParty.{seated-good}
 
 -- a party that does not talk is not polled
 unpolled : (t x : Bool) → (not t && false && x) ≡ true → ⊥

@@ -1,21 +1,21 @@
 -- Demand 3.
 -- Assumes nothing.
 use mathlib.Core.Path.{_≡_, refl, sym, ap, _∙_}
-use mathlib.Core.Bool.{Bool, true, false}
-use mathlib.Core.List.{List, [], _∷_}
-use Prim.Native.Nat.{ℕ, suc, _+_, _<_}
+use mathlib.Core.Bool.{true}
+use mathlib.Core.List.{List}
+use Prim.Native.Nat.{ℕ, suc, _<_}
 use native.Mathlib.Omega.{arith}
 use lib.ListN.{length, take}
 use borrow.Author.Tests.{eqb-true}
 use Rattle.party.specs.Parts.{one}
 use Rattle.party.proofs.Logic.{no, cond-elim}
-use Rattle.bus.specs.Types.{Place, Party, Active, Standing, Nothing, Byte, Bus, Answer, Call}
+use Rattle.bus.specs.Types.{Party, Active, Standing, Nothing, Byte, Bus, Answer, Call}
 use Rattle.bus.specs.Types.ruling
 use Rattle.bus.specs.Types.call-of
-use Rattle.bus.specs.Record.{here, stands, refuse, built, badBuild, build}
+use Rattle.bus.specs.Record.{here, stands, refuse, built, badBuild}
 use Rattle.bus.specs.Machine as m
 use Rattle.bus.specs.Delivery.{Moment, Delivered, Delivery, moment, busAt, answerAt, held}
-use Rattle.bus.proofs.Invariant.{busy, active-busy, sentBy, Inv}
+use Rattle.bus.proofs.Invariant.{busy, sentBy, Inv}
 use Rattle.bus.proofs.Building.{built-inv, built-held}
 use Rattle.bus.proofs.Summary.{Good}
 use Rattle.bus.proofs.EachCall.{all-good, linked, first, run-inv, put-total, byte-total}

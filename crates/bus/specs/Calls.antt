@@ -1,14 +1,14 @@
 -- The host's calls, once they are accepted (document 01, "The host's calls"). Each is an effect on the party that it names.
 -- Assumes nothing.
 use Prim.Native.Nat.{ℕ, _+_}
-use mathlib.Core.Bool.{Bool, true, false, cond, _&&_, _||_}
+use mathlib.Core.Bool.{Bool, false, cond, _&&_}
 use lib.ListN.{set}
 use Rattle.party.specs.Parts.{isFull, one, heldBytes, withFlags, unaddressed, withRole, withControl, withAcceptor, withHeld, withInput, withRequest}
 use Rattle.party.specs.Driving.{isActive}
 use Rattle.party.specs.Settling.{changeControl}
 use Rattle.parties.specs.Places.{each, total}
 use Rattle.parties.specs.Lines.{linesByte}
-use Rattle.bus.specs.Types.{Role, Party, Acceptor, Aids, Anrs, Awns, Control, Idle, Standby, Active, Slot, Empty, Full, Lines, Standing, Bus, Answer, Effect}
+use Rattle.bus.specs.Types.{Role, Party, Acceptor, Aids, Anrs, Awns, Control, Idle, Active, Slot, Empty, Full, Lines, Standing, Bus, Answer, Effect}
 use Rattle.bus.specs.Types.ev
 use Rattle.bus.specs.Record.{here, lines}
 use Rattle.bus.specs.Settling.{say, settle, attend, touch, alarm}

@@ -5,10 +5,10 @@ use mathlib.Core.Path.{_≡_}
 use mathlib.Core.Bool.{Bool, true, false, _&&_}
 use mathlib.Core.List.{List, [], _∷_}
 use mathlib.Core.Logic.{_⊎_}
-use Prim.Native.Nat.{ℕ, _+_, _<_, _≤_}
+use Prim.Native.Nat.{ℕ, _+_, _<_}
 use lib.ListN.{length, getD, take}
 use Rattle.party.specs.Parts.{one, heldBytes}
-use Rattle.parties.specs.Places.{place, at, total}
+use Rattle.parties.specs.Places.{place, total}
 use Rattle.bus.specs.Types.{Place, Active, Strs, Acrs, Acds, Full, Event, Bus, Answer, Call, Refusal}
 use Rattle.bus.specs.Types.ruling
 use Rattle.bus.specs.Types.ev

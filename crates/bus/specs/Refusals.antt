@@ -1,12 +1,12 @@
 -- Which refusal a call meets (document 01, the table of refusals and its order: 1, values, then 4 to 9).
 -- Assumes nothing.
 use Prim.Native.Nat.{ℕ}
-use mathlib.Core.Bool.{Bool, true, false, not, cond}
+use mathlib.Core.Bool.{Bool, true, false, cond}
 use lib.Dec.{ltb, eqb}
 use Rattle.party.specs.Parts.{isFull}
 use Rattle.party.specs.Driving.{isActive}
 use Rattle.parties.specs.Places.{otherTalker, isFound}
-use Rattle.bus.specs.Types.{Place, Party, Control, Idle, Standby, Active, Bus, Call, Refusal}
+use Rattle.bus.specs.Types.{Place, Control, Idle, Standby, Active, Bus, Call, Refusal}
 use Rattle.bus.specs.Types.ruling
 use Rattle.bus.specs.Types.call-of
 use Rattle.bus.specs.Record.{here, lines, sendsCommand}

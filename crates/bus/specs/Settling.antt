@@ -1,7 +1,7 @@
 -- Attention and settling of the whole bus, and the two ways in which a call of one party ends (document 01, "Attention and settling").
 -- Assumes nothing.
 use Prim.Native.Nat.{ℕ}
-use mathlib.Core.Bool.{Bool, true, false, not, cond}
+use mathlib.Core.Bool.{Bool, false, not, cond}
 use mathlib.Core.List.{List}
 use lib.ListN.{set}
 use Rattle.party.specs.Parts.{one}

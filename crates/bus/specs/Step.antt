@@ -1,16 +1,16 @@
 -- A step of a party (document 01, "A step of party p"). It reads the lines, what stands and the party; only the end of TCT reads another party.
 -- Assumes nothing.
 use Prim.Native.Nat.{ℕ, _+_}
-use mathlib.Core.Bool.{Bool, true, false, not, cond, _&&_, _||_}
+use mathlib.Core.Bool.{Bool, false, not, cond, _&&_, _||_}
 use lib.ListN.{set}
 use Rattle.message.specs.Meaning.{meaning}
-use Rattle.party.specs.Parts.{idle, isFull, one, heldBytes, withRole, withSource, withAcceptor, withInput}
+use Rattle.party.specs.Parts.{isFull, heldBytes, withRole, withSource, withAcceptor, withInput}
 use Rattle.party.specs.Driving.{isActive}
 use Rattle.party.specs.Hearing.{hear, hearEvent, passesControl}
 use Rattle.party.specs.Sending.{isSource, isPolled, offer, kindOf, endOf, putEvent, afterPut, afterNoacc, noaccDrops}
 use Rattle.party.specs.Settling.{changeControl}
 use Rattle.parties.specs.Places.{place, otherTalker}
-use Rattle.bus.specs.Types.{Place, Party, Source, Sids, Sgns, Sdys, Strs, Acceptor, Aids, Anrs, Acrs, Acds, Awns, Idle, Active, Slot, Empty, Full, Kind, Command, Data, Status, Event, Lines, Found, Nowhere, At, Standing, Nothing, Byte, Bus, Answer, Said, Effect}
+use Rattle.bus.specs.Types.{Place, Party, Source, Sids, Sgns, Sdys, Strs, Acceptor, Aids, Anrs, Acrs, Acds, Awns, Idle, Active, Slot, Empty, Full, Kind, Lines, Found, Nowhere, At, Standing, Nothing, Byte, Bus, Answer, Said, Effect}
 use Rattle.bus.specs.Types.ev
 use Rattle.bus.specs.Record.{here, lines, ofCommand}
 use Rattle.bus.specs.Settling.{say, attend, touch}

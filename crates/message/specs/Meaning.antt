@@ -1,7 +1,7 @@
 -- The table of 256 meanings.
 -- Assumes nothing.
 use Prim.Native.Nat.{ℕ, _-_, _%_}
-use mathlib.Core.Bool.{Bool, true, false, cond}
+use mathlib.Core.Bool.{cond}
 use lib.Dec.{ltb, eqb}
 use Rattle.message.specs.declared.Address.{Address}
 use Rattle.message.specs.declared.Meaning.{Meaning}

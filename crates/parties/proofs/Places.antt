@@ -6,13 +6,13 @@ use mathlib.Core.List.{List, [], _∷_}
 use Prim.Native.Nat.{ℕ, zero, suc, _+_, _≤_, _<_}
 use native.Mathlib.Omega.{arith}
 use native.Mathlib.Nat.{not-suc-le-zero, le-of-suc-le-suc}
-use lib.ListN.{length, set, length-set}
+use lib.ListN.{length, set}
 use lib.Seq.{getD-set-same, getD-set-other}
 use lib.Dec.{ltb, eqb}
 use borrow.Author.Tests.{eqb-true, eqb-false, ltb-true, ltb-false}
 use Rattle.party.specs.Parts.{idle}
 use Rattle.party.proofs.Logic.{no, test, or-right}
-use Rattle.parties.specs.Types.{Place, Party, Found, Nowhere, At}
+use Rattle.parties.specs.Types.{Place, Party, Nowhere, At}
 use Rattle.parties.specs.Places.{place, at, some, each, total, firstFrom}
 
 -- one place changed

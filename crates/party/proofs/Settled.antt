@@ -4,9 +4,9 @@ use mathlib.Core.Path.{_≡_, refl}
 use mathlib.Core.Bool.{Bool, true, false, not, cond, _&&_, _||_}
 use mathlib.Core.Logic.{_⊎_, inl, inr}
 use Prim.Native.Nat.{ℕ}
-use Rattle.party.specs.Types.{Address, Party, Control, Idle, Standby, Active, Source, Sids, Sgns, Sdys, Strs, Acceptor, Aids, Anrs, Acrs, Acds, Awns, Service, Nprs, Srqs, Aprs}
+use Rattle.party.specs.Types.{Address, Party, Source, Sids, Sgns, Sdys, Strs, Service, Nprs, Srqs, Aprs}
 use Rattle.party.specs.Parts.{newborn}
-use Rattle.party.specs.Driving.{isActive, active, nrfdAt}
+use Rattle.party.specs.Driving.{isActive}
 use Rattle.party.specs.Sending.{isSource, isPolled}
 use Rattle.party.specs.Settling.{sourceSettled, serviceSettled, rsv, liveSettled, settled}
 use Rattle.party.proofs.Logic.{no}

@@ -1,7 +1,7 @@
 -- What a source offers, and what putting and dropping it leave of the party (document 01, "Source step").
 -- Assumes nothing.
 use Prim.Native.Nat.{ℕ, _+_, _*_, _/_, _%_}
-use mathlib.Core.Bool.{Bool, true, false, not, cond, _&&_, _||_}
+use mathlib.Core.Bool.{Bool, false, not, cond, _&&_, _||_}
 use Rattle.party.specs.Types.{Party, Request, Service, Nprs, Srqs, Aprs, Slot, Empty, Full, Kind, Command, Data, Status, Event, Sgns, Strs}
 use Rattle.party.specs.Types.ev
 use Rattle.party.specs.Parts.{withSource, withHeld}

@@ -1,6 +1,5 @@
 -- The table's rule, proved once over the whole table: entry b is the code of the meaning of b.
 use mathlib.Core.Path.{refl}
-use Prim.Native.Nat.{ℕ}
 use borrow.Author.Needs.{needs}
 use Rattle.message.specs.Meaning.{named, sevenBits, meaning, codeOf}
 use Rattle.message.proofs.Entries.{at}

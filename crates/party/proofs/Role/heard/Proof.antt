@@ -67,9 +67,7 @@ returns-2 c =
     simp (
       c .heard-listen .ensures,
       c .before .owns .ensures,
-      c .before .before .known-told .given .1,
       c .before .before .before .m .given .1,
-      c .before .before .before .before .match .keys2,
     )
 
 returns-3 : tie.Need-returns-3
@@ -84,9 +82,7 @@ returns-4 c =
     simp (
       c .heard-talk .ensures,
       c .before .owns2 .ensures,
-      c .before .before .known-told2 .given .1,
       c .before .before .before .m2 .given .1,
-      c .before .before .before .before .match .keys4,
     )
 
 returns-5 : tie.Need-returns-5
