@@ -5,19 +5,19 @@ use mathlib.Core.Bool.{Bool, true, false, not, _||_}
 use mathlib.Core.Logic.{inl, inr}
 use Prim.Native.Nat.{ℕ, _<_}
 use Rattle.message.specs.Meaning.{meaning}
-use Rattle.party.specs.Parts.{isFull, withAcceptor, withInput}
+use Rattle.party.specs.Parts.{isFull, withAcceptor}
 use Rattle.party.specs.Driving.{isActive}
 use Rattle.party.specs.Hearing.{hear, hearEvent}
 use Rattle.party.specs.Sending.{isSource}
 use Rattle.party.proofs.Logic.{no, test, cond-elim, or-right}
 use Rattle.party.proofs.Roles.{weak-same, hear-single, hear-name, hear-events}
 use Rattle.party.proofs.Settled.{source-of-active}
-use Rattle.bus.specs.Types.{Place, Party, Strs, Acceptor, Aids, Anrs, Acrs, Acds, Awns, Full, Kind, Event, Standing, Nothing, Byte, Bus, Effect}
+use Rattle.bus.specs.Types.{Place, Party, Strs, Acceptor, Aids, Anrs, Acrs, Acds, Awns, Kind, Event, Standing, Nothing, Byte, Bus, Effect}
 use Rattle.bus.specs.Types.ev
 use Rattle.bus.specs.Types.call-of
 use Rattle.bus.specs.Record.{here, stands, lines}
 use Rattle.bus.specs.Settling.{say, touch}
-use Rattle.bus.specs.Step.{does, move, heardBy, take, acceptorStep, turn}
+use Rattle.bus.specs.Step.{stay, move, taking, hearing, take, acceptorStep, turn}
 use Rattle.bus.specs.Delivery.{isPut, isEnd, isTake, isHostPut}
 use Rattle.bus.proofs.Invariant.{sentBy, isCommand, codeOf, waits, look, Inv, atnOf, quiet}
 use Rattle.bus.proofs.Change.{weak-look}
@@ -55,12 +55,14 @@ module _ (b : Bus) (I : Inv b) (p : Place) (l : p .0 < b .count) (ns : isSource 
   not-mine : isCommand (b .standing) ≡ true → sentBy (p .0) (b .standing) ≡ false
   not-mine c = test (sentBy (p .0) (b .standing)) (λ h. absurd (not-sending (I .pre .sent (p .0) h))) (λ h. h)
 
-  stays : (st : Standing) → b .standing ≡ st → Good b (call-of.Step p) (touch b (p .0) (does (say ev.None 0 false 0) (here b (p .0)) st))
-  stays st es = subst (λ (x : Standing). Good b (call-of.Step p) (touch b (p .0) (does (say ev.None 0 false 0) (here b (p .0)) x))) es (stay-good b I p l)
+  stays : (st : Standing) → b .standing ≡ st → G (stay st (here b (p .0)))
+  unfolding G
+  stays st es = subst (λ (x : Standing). Good b (call-of.Step p) (touch b (p .0) (stay x (here b (p .0))))) es (stay-good b I p l)
 
   hear-good : (s : Place) (k : Kind) (v : ℕ) (e : Bool) → here b (p .0) .acceptor ≡ Acrs → b .standing ≡ Byte s k v e → atnOf b ≡ true
-      → Good b (call-of.Step p) (touch b (p .0) (does (say (hearEvent (meaning v) (here b (p .0) .role .listen)) v e 0) (withAcceptor Acds (heardBy v (here b (p .0)))) (b .standing)))
-  hear-good s k v e ea es t = kept-good b (call-of.Step p) I (p .0) l (say (hearEvent (meaning v) (q .role .listen)) v e 0) new
+      → G (hearing v e (b .standing) (here b (p .0)))
+  unfolding G
+  hear-good s k v e ea es t = kept-good b (call-of.Step p) I (p .0) l (hearing v e (b .standing) q .said) new
       (record {
         name = hear-name (meaning v) (q .role);
         act = refl;
@@ -93,7 +95,7 @@ module _ (b : Bus) (I : Inv b) (p : Place) (l : p .0 < b .count) (ns : isSource 
       q = here b (p .0)
 
       new : Party
-      new = withAcceptor Acds (heardBy v q)
+      new = hearing v e (b .standing) q .party
 
       E : TakeEvent (hearEvent (meaning v) (q .role .listen))
       E = hear-event v (q .role .listen)
@@ -109,8 +111,9 @@ module _ (b : Bus) (I : Inv b) (p : Place) (l : p .0 < b .count) (ns : isSource 
       later = look-off (b .standing) (p .0) new (rw (cmd, not-mine cmd))
 
   took-good : (s : Place) (k : Kind) (v : ℕ) (e : Bool) → here b (p .0) .acceptor ≡ Acrs → b .standing ≡ Byte s k v e → atnOf b ≡ false
-      → Good b (call-of.Step p) (touch b (p .0) (does (say ev.Took v e 0) (withAcceptor Acds (withInput (Full v e) (here b (p .0)))) (b .standing)))
-  took-good s k v e ea es t = seated-good b (call-of.Step p) I (p .0) l (say ev.Took v e 0) (withAcceptor Acds (withInput (Full v e) (here b (p .0))))
+      → G (taking v e (b .standing) (here b (p .0)))
+  unfolding G
+  took-good s k v e ea es t = seated-good b (call-of.Step p) I (p .0) l (taking v e (b .standing) (here b (p .0)) .said) (taking v e (b .standing) (here b (p .0)) .party)
       (record {
         inactive = not-active;
         name = refl;
@@ -141,7 +144,8 @@ module _ (b : Bus) (I : Inv b) (p : Place) (l : p .0 < b .count) (ns : isSource 
   shift-good : (x : Acceptor) → (stands (b .standing) ≡ true → x ≡ Anrs → ⊥) → (x ≡ Aids → ⊥) → (here b (p .0) .acceptor ≡ Aids → ⊥)
       → waits (b .standing) (p .0) x ≡ waits (b .standing) (p .0) (here b (p .0) .acceptor)
       → (stands (b .standing) ≡ true → x ≡ Acrs → ⊥) → (atnOf b ≡ false → x ≡ Acrs → isFull (here b (p .0) .input) ≡ false) → (here b (p .0) .acceptor ≡ Acrs → ⊥)
-      → Good b (call-of.Step p) (touch b (p .0) (move (b .standing) (withAcceptor x (here b (p .0)))))
+      → G (move (b .standing) (withAcceptor x (here b (p .0))))
+  unfolding G
   shift-good x an ai pa c ac em pc = seated-good b (call-of.Step p) I (p .0) l (say ev.Moved 0 false 0) (withAcceptor x (here b (p .0)))
       (record {
         inactive = not-active;
@@ -181,24 +185,28 @@ module _ (b : Bus) (I : Inv b) (p : Place) (l : p .0 < b .count) (ns : isSource 
   anrs-none : here b (p .0) .acceptor ≡ Anrs → stands (b .standing) ≡ false
   anrs-none ea = test (stands (b .standing)) (λ h. absurd (I .pre .noAnrs h (p .0) ea)) (λ h. h)
 
+  -- with room in data-in, or under ATN
+  room : (t f : Bool) → t ≡ false → (t || not f) ≡ true → f ≡ false
+  room true f e h = no (cc)
+  room false true e h = no (cc)
+  room false false e h = refl
+
+  takes : here b (p .0) .acceptor ≡ Acrs → (st : Standing) → b .standing ≡ st → G (take (atnOf b) st (here b (p .0)))
+  takes ea Nothing es = stays Nothing es
+  takes ea (Byte s k v e) es = cond-elim G (atnOf b)
+      (λ t. subst (λ (st : Standing). G (hearing v e st (here b (p .0)))) es (hear-good s k v e ea es t))
+      (λ t. subst (λ (st : Standing). G (taking v e st (here b (p .0)))) es (took-good s k v e ea es t))
+
+  by-state : (x : Acceptor) → here b (p .0) .acceptor ≡ x → G (acceptorStep x (lines b) (b .standing) (here b (p .0)))
+  by-state Aids ea = stays (b .standing) refl
+  by-state Anrs ea = cond-elim G (atnOf b || not (isFull (here b (p .0) .input)))
+      (λ h. shift-good _ (λ _ e. no (cc)) (λ e. no (cc)) (λ e. no (cc)) (nobody (b .standing) Acrs (here b (p .0) .acceptor) (anrs-none ea)) (λ s e. I .pre .noAnrs s (p .0) ea) (λ t _. room (atnOf b) (isFull (here b (p .0) .input)) t h) (λ e. no (cc)))
+      (λ _. stays (b .standing) refl)
+  by-state Acrs ea = cond-elim G (lines b .dav) (λ _. takes ea (b .standing) refl) (λ _. stays (b .standing) refl)
+  by-state Acds ea = shift-good _ (λ _ e. no (cc)) (λ e. no (cc)) (λ e. no (cc)) (rw ea) (λ s e. no (cc)) (λ t e. no (cc)) (λ e. no (cc))
+  by-state Awns ea = cond-elim G (lines b .dav) (λ _. stays (b .standing) refl)
+      (λ d. shift-good _ (λ s e. let z = none-stands d in no (cc)) (λ e. no (cc)) (λ e. no (cc)) (nobody (b .standing) Anrs (here b (p .0) .acceptor) (none-stands d)) (λ s e. no (cc)) (λ t e. no (cc)) (λ e. no (cc)))
+
   pub accept-good : (x : Acceptor) → here b (p .0) .acceptor ≡ x → Good b (call-of.Step p) (turn b (p .0) (acceptorStep x (lines b) (b .standing) (here b (p .0))))
   unfolding G
-  accept-good Aids ea = stay-good b I p l
-  accept-good Anrs ea = cond-elim G (atnOf b || not (isFull (here b (p .0) .input)))
-      (λ h. shift-good Acrs (λ _ e. no (cc)) (λ e. no (cc)) (λ e. no (cc)) (nobody (b .standing) Acrs (here b (p .0) .acceptor) (anrs-none ea)) (λ s e. I .pre .noAnrs s (p .0) ea) (λ t _. room (atnOf b) (isFull (here b (p .0) .input)) t h) (λ e. no (cc)))
-      (λ _. stay-good b I p l)
-    where
-      room : (t f : Bool) → t ≡ false → (t || not f) ≡ true → f ≡ false
-      room true f e h = no (cc)
-      room false true e h = no (cc)
-      room false false e h = refl
-  accept-good Acrs ea = cond-elim G (lines b .dav) (λ _. taking (b .standing) refl) (λ _. stay-good b I p l)
-    where
-      taking : (st : Standing) → b .standing ≡ st → G (take (atnOf b) st (here b (p .0)))
-      taking Nothing es = stays Nothing es
-      taking (Byte s k v e) es = cond-elim G (atnOf b)
-          (λ t. subst (λ (st : Standing). G (does (say (hearEvent (meaning v) (here b (p .0) .role .listen)) v e 0) (withAcceptor Acds (heardBy v (here b (p .0)))) st)) es (hear-good s k v e ea es t))
-          (λ t. subst (λ (st : Standing). G (does (say ev.Took v e 0) (withAcceptor Acds (withInput (Full v e) (here b (p .0)))) st)) es (took-good s k v e ea es t))
-  accept-good Acds ea = shift-good Awns (λ _ e. no (cc)) (λ e. no (cc)) (λ e. no (cc)) (rw ea) (λ s e. no (cc)) (λ t e. no (cc)) (λ e. no (cc))
-  accept-good Awns ea = cond-elim G (lines b .dav) (λ _. stay-good b I p l)
-      (λ d. shift-good Anrs (λ s e. let z = none-stands d in no (cc)) (λ e. no (cc)) (λ e. no (cc)) (nobody (b .standing) Anrs (here b (p .0) .acceptor) (none-stands d)) (λ s e. no (cc)) (λ t e. no (cc)) (λ e. no (cc)))
+  accept-good x ea = by-state x ea

@@ -17,14 +17,14 @@ use Rattle.party.proofs.Roles.{nameOf, Single, Weak, weak-unaddressed}
 use Rattle.parties.specs.Places.{at, each, total}
 use Rattle.parties.specs.Lines.{linesByte}
 use Rattle.parties.proofs.Places.{upd, at-set, at-each-all, length-each, total-set, total-each, total-split}
-use Rattle.bus.specs.Types.{Place, Party, Control, Idle, Standby, Active, Aids, Anrs, Acrs, Acds, Empty, Command, Data, Status, Standing, Nothing, Byte, Bus, Said, Call}
+use Rattle.bus.specs.Types.{Place, Party, Control, Idle, Standby, Active, Acceptor, Aids, Anrs, Acrs, Acds, Empty, Command, Data, Status, Standing, Nothing, Byte, Bus, Said, Call}
 use Rattle.bus.specs.Types.ruling
 use Rattle.bus.specs.Types.ev
 use Rattle.bus.specs.Types.call-of
 use Rattle.bus.specs.Words.{isAccepted}
 use Rattle.bus.specs.Record.{here, lines, sendsCommand}
 use Rattle.bus.specs.Settling.{say, settleAs, alarm, touch, deserted}
-use Rattle.bus.specs.Calls.{joining, quiet, controlled, wiped, resetAcceptor, cleared, clearDrops, linesAnswer}
+use Rattle.bus.specs.Calls.{quiet, controlled, wiped, resetAcceptor, cleared, clearDrops, linesAnswer}
 use Rattle.bus.specs.Refusals.{inStandby, standbyRefusal, refusal}
 use Rattle.bus.specs.Machine.{accepted}
 use Rattle.bus.specs.Delivery.{wrote, held}
@@ -120,13 +120,13 @@ module _ (b : Bus) (I : Inv b) (p : Place) where
         ctl = λ x. no (cc);
         strs = λ x. x;
         stst = λ x. x;
-        noAnrs = λ s. away (atnOf b) (lines b .dav) (stands-dav b I s);
+        noAnrs = λ s. away (stands-dav b I s);
         active = λ x. no (cc);
-        others = λ t a. near (atnOf b) (lines b .dav) t;
+        others = λ t a. near t;
         listens = λ t x. rw t;
         joins = λ t x. no (cc);
         apart = λ x. no (cc);
-        empty = λ t x. absurd (never (atnOf b) (lines b .dav) .0 x);
+        empty = λ t x. absurd (never .0 x);
         polled = λ _ x. absurd (mute (atnOf b) .0 x);
         polls = λ _ x. absurd (mute (atnOf b) .1 x);
       })
@@ -137,25 +137,23 @@ module _ (b : Bus) (I : Inv b) (p : Place) where
         acct = omega arith;
         caller = λ j x. no (cc);
         takes = λ h. no (cc);
-        silent = λ x y. absurd (never (atnOf b) (lines b .dav) .1 y);
-        rejoin = λ h x. absurd (never (atnOf b) (lines b .dav) .0 x);
+        silent = λ x y. absurd (never .1 y);
+        rejoin = λ h x. absurd (never .0 x);
         leaves = λ h x. inr (inr (inr refl));
       })
     where
       new : Party
       new = withAcceptor (resetAcceptor (lines b)) (wiped (here b (p .0)))
 
-      away : (t d : Bool) → d ≡ true → cond t (joining d) Aids ≡ Anrs → ⊥
-      away true d h e = joining-dav d h e
-      away false d h e = no (cc)
+      -- a party reset while a byte stands is not in ANRS
+      away : lines b .dav ≡ true → resetAcceptor (lines b) ≡ Anrs → ⊥
+      away h = cond-elim (λ (x : Acceptor). x ≡ Anrs → ⊥) (atnOf b) (λ _. joining-dav (lines b .dav) h) (λ _ e. no (cc))
 
-      near : (t d : Bool) → t ≡ true → cond t (joining d) Aids ≡ Aids → ⊥
-      near true d h e = joining-away d .2 e
-      near false d h e = no (cc)
+      near : atnOf b ≡ true → resetAcceptor (lines b) ≡ Aids → ⊥
+      near t = cond-elim (λ (x : Acceptor). x ≡ Aids → ⊥) (atnOf b) (λ _. joining-away (lines b .dav) .2) (λ f e. no (cc))
 
-      never : (t d : Bool) → (cond t (joining d) Aids ≡ Acrs → ⊥) × (cond t (joining d) Aids ≡ Acds → ⊥)
-      never true d = (joining-away d .0, joining-away d .1)
-      never false d = (λ e. no (cc), λ e. no (cc))
+      never : (resetAcceptor (lines b) ≡ Acrs → ⊥) × (resetAcceptor (lines b) ≡ Acds → ⊥)
+      never = cond-elim (λ (x : Acceptor). (x ≡ Acrs → ⊥) × (x ≡ Acds → ⊥)) (atnOf b) (λ _. (joining-away (lines b .dav) .0, joining-away (lines b .dav) .1)) (λ _. (λ e. no (cc), λ e. no (cc)))
 
       -- a party with its flags off is no source, and not polled
       mute : (t : Bool) → ((not t && false && false) ≡ true → ⊥) × ((false || (not t && false)) ≡ true → ⊥)
@@ -164,7 +162,7 @@ module _ (b : Bus) (I : Inv b) (p : Place) where
 
       -- the reset party has nothing left to hear
       gone : waits (b .standing) (p .0) (new .acceptor) ≡ true → ⊥
-      gone h = split (isCommand (b .standing)) (sentBy (p .0) (b .standing)) (inAcrs (new .acceptor)) (λ c s. let z = I .pre .leads c (p .0) s in no (cc)) (λ a. never (atnOf b) (lines b .dav) .0 (is-acrs (new .acceptor) a)) h
+      gone h = split (isCommand (b .standing)) (sentBy (p .0) (b .standing)) (inAcrs (new .acceptor)) (λ c s. let z = I .pre .leads c (p .0) s in no (cc)) (λ a. never .0 (is-acrs (new .acceptor) a)) h
         where
           split : (c s a : Bool) → (c ≡ true → s ≡ true → ⊥) → (a ≡ true → ⊥) → (c && (s || a)) ≡ true → ⊥
           split false s a f g e = no (cc)

@@ -4,7 +4,7 @@ use mathlib.Core.Path.{_≡_, refl, sym, _∙_}
 use mathlib.Core.Bool.{Bool, true, false, cond}
 use Prim.Native.Nat.{ℕ, _<_}
 use native.Mathlib.Omega.{arith}
-use Rattle.party.specs.Parts.{isFull, heldBytes, withHeld, withInput, withRequest}
+use Rattle.party.specs.Parts.{isFull, withHeld, withInput, withRequest}
 use Rattle.party.proofs.Logic.{no}
 use Rattle.bus.specs.Types.{Place, Party, Slot, Empty, Full, Bus}
 use Rattle.bus.specs.Types.ruling
@@ -14,7 +14,7 @@ use Rattle.bus.specs.Words.{isAccepted}
 use Rattle.bus.specs.Record.{here}
 use Rattle.bus.specs.Settling.{say, touch}
 use Rattle.bus.specs.Step.{does}
-use Rattle.bus.specs.Calls.{read}
+use Rattle.bus.specs.Calls.{read, drop}
 use Rattle.bus.specs.Refusals.{ofSwitch, isOn, refusal}
 use Rattle.bus.specs.Machine.{accepted}
 use Rattle.bus.proofs.Invariant.{Inv}
@@ -53,5 +53,5 @@ module _ (b : Bus) (I : Inv b) (p : Place) where
       new = withRequest (record { live = here b (p .0) .request .live; saved = v; service = here b (p .0) .request .service }) (here b (p .0))
 
   pub drop-good : isAccepted (refusal b (call-of.Drop p)) ≡ true → Good b (call-of.Drop p) (accepted b (call-of.Drop p))
-  drop-good ok = plain-good b (call-of.Drop p) I (p .0) (known b p ruling.Accepted ok .0) (say ev.None 0 false (heldBytes (here b (p .0)))) (withHeld Empty (here b (p .0)))
-      (plainly (here b (p .0)) (withHeld Empty (here b (p .0))) refl refl refl refl (λ x. x)) (λ j x. no (cc)) refl refl refl (omega arith)
+  drop-good ok = plain-good b (call-of.Drop p) I (p .0) (known b p ruling.Accepted ok .0) (drop (b .standing) (here b (p .0)) .said) (drop (b .standing) (here b (p .0)) .party)
+      (plainly (here b (p .0)) (drop (b .standing) (here b (p .0)) .party) refl refl refl refl (λ x. x)) (λ j x. no (cc)) refl refl refl (omega arith)

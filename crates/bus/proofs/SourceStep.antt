@@ -10,7 +10,7 @@ use Rattle.message.specs.Meaning.{meaning}
 use Rattle.party.specs.Parts.{isFull, one, heldBytes, withSource, withHeld}
 use Rattle.party.specs.Driving.{isActive, drivesNrfd}
 use Rattle.party.specs.Hearing.{hear, passesControl}
-use Rattle.party.specs.Sending.{isSource, isPolled, offer, kindOf, afterPut, afterNoacc}
+use Rattle.party.specs.Sending.{isSource, isPolled, offer, kindOf}
 use Rattle.party.proofs.Logic.{no, cond-elim}
 use Rattle.party.proofs.Settled.{source-case}
 use Rattle.parties.specs.Places.{place, otherTalker}
@@ -20,7 +20,7 @@ use Rattle.bus.specs.Types.ev
 use Rattle.bus.specs.Types.call-of
 use Rattle.bus.specs.Record.{here, lines, ofCommand}
 use Rattle.bus.specs.Settling.{say, touch}
-use Rattle.bus.specs.Step.{does, stay, put, noacc, ready, heardBy, ended, sourceStep, handOn, turn}
+use Rattle.bus.specs.Step.{does, stay, move, put, noacc, ready, heardBy, ended, sourceStep, handOn, turn}
 use Rattle.bus.specs.Delivery.{isPut, isEnd, isTake, isHostPut}
 use Rattle.bus.proofs.Invariant.{sentBy, look, look-idle, Pre, Inv, atnOf, quiet}
 use Rattle.bus.proofs.Putting.{Fit, put-pre, end-pre, nothing-stands, look-on}
@@ -69,6 +69,15 @@ module _ (b : Bus) (I : Inv b) (p : Place) (l : p .0 < b .count) (so : isSource 
       held : isPolled (atnOf b) (here b (p .0)) ≡ false → offer (isPolled (atnOf b) (here b (p .0))) (here b (p .0)) ≡ here b (p .0) .held
       held h = rw h
 
+  stays : G (stay (b .standing) (here b (p .0)))
+  unfolding G
+  stays = stay-good b I p l
+
+  -- a source that is not in STRS, and does not come to it, moves
+  moved : (s : Source) → (s ≡ Strs → ⊥) → (here b (p .0) .source ≡ Strs → ⊥) → G (move (b .standing) (withSource s (here b (p .0))))
+  unfolding G
+  moved s n m = plain-good b (call-of.Step p) I (p .0) l (say ev.Moved 0 false 0) (withSource s (here b (p .0))) (plain-source (here b (p .0)) (here b (p .0)) s (plain-same (here b (p .0))) n m) (step-caller b I p l) refl refl refl refl
+
   module _ (sd : here b (p .0) .source ≡ Sdys) where
     put-with : (x : Event) (new : Party) (k : Kind) (v : ℕ) (y : Bool) → isPut x ≡ true → isEnd x ≡ false → isTake x ≡ false
         → new .role ≡ here b (p .0) .role → new .control ≡ here b (p .0) .control → new .acceptor ≡ here b (p .0) .acceptor → new .input ≡ here b (p .0) .input → new .source ≡ Strs
@@ -89,13 +98,13 @@ module _ (b : Bus) (I : Inv b) (p : Place) (l : p .0 < b .count) (so : isSource 
     put-kind Command v e ek eo nr = let a = kind-command (isActive (here b (p .0))) (isPolled (atnOf b) (here b (p .0))) ek in
         let t = I .pre .atnIf (p .0) a in
         let u = atn-unpolled (atnOf b) (here b (p .0)) t in
-        put-with ev.Cmd (afterPut Command (here b (p .0))) Command v false refl refl refl refl refl refl refl refl
+        put-with _ (put Command v e p (here b (p .0)) .party) Command v false refl refl refl refl refl refl refl refl
         (record { command = sym t; leads = λ _. a; plain = λ h. no (cc); status = sym u }) nr (from-held v e u eo)
     put-kind Data v e ek eo nr = let a = kind-data (isActive (here b (p .0))) (isPolled (atnOf b) (here b (p .0))) ek in
-        put-with ev.Data (afterPut Data (here b (p .0))) Data v e refl refl refl refl refl refl refl refl
+        put-with _ (put Data v e p (here b (p .0)) .party) Data v e refl refl refl refl refl refl refl refl
         (record { command = sym (atn-off (a .0)); leads = λ h. no (cc); plain = λ h. refl; status = sym (a .1) }) nr (from-held v e (a .1) eo)
     put-kind Status v e ek eo nr = let a = kind-status (isActive (here b (p .0))) (isPolled (atnOf b) (here b (p .0))) ek in
-        put-with ev.Stat (afterPut Status (here b (p .0))) Status v false refl refl refl refl refl refl refl refl
+        put-with _ (put Status v e p (here b (p .0)) .party) Status v false refl refl refl refl refl refl refl refl
         (record { command = sym (atn-off (a .0)); leads = λ h. no (cc); plain = λ h. no (cc); status = sym (a .1) }) nr (omega arith)
 
     noacc-with : (new : Party) (v : ℕ) (y : Bool) (d : ℕ) → Plain (here b (p .0)) new → heldBytes (here b (p .0)) ≡ d + heldBytes new → Good b (call-of.Step p) (touch b (p .0) (does (say ev.Noacc v y d) new (b .standing)))
@@ -107,22 +116,14 @@ module _ (b : Bus) (I : Inv b) (p : Place) (l : p .0 < b .count) (so : isSource 
     noacc-kind : (k : Kind) (v : ℕ) (e : Bool) → kind ≡ k → offer (isPolled (atnOf b) (here b (p .0))) (here b (p .0)) ≡ Full v e → G (noacc k v e (b .standing) (here b (p .0)))
     unfolding kind G
     noacc-kind Command v e ek eo = let t = I .pre .atnIf (p .0) (kind-command (isActive (here b (p .0))) (isPolled (atnOf b) (here b (p .0))) ek) in
-        noacc-with (afterNoacc Command (here b (p .0))) v false 1 (plain-spent Empty) (from-held v e (atn-unpolled (atnOf b) (here b (p .0)) t) eo)
-    noacc-kind Data v e ek eo = noacc-with (afterNoacc Data (here b (p .0))) v e 1 (plain-spent Empty) (from-held v e (kind-data (isActive (here b (p .0))) (isPolled (atnOf b) (here b (p .0))) ek .1) eo)
-    noacc-kind Status v e ek eo = noacc-with (afterNoacc Status (here b (p .0))) v false 0 (plain-spent (here b (p .0) .held)) (omega arith)
-
-    moved : (s : Source) → (s ≡ Strs → ⊥) → G (does (say ev.Moved 0 false 0) (withSource s (here b (p .0))) (b .standing))
-    unfolding G
-    moved s n = plain-good b (call-of.Step p) I (p .0) l (say ev.Moved 0 false 0) (withSource s (here b (p .0))) (plain-source (here b (p .0)) (here b (p .0)) s (plain-same (here b (p .0))) n (λ e. no (cc))) (step-caller b I p l) refl refl refl refl
+        noacc-with (noacc Command v e (b .standing) (here b (p .0)) .party) v false 1 (plain-spent Empty) (from-held v e (atn-unpolled (atnOf b) (here b (p .0)) t) eo)
+    noacc-kind Data v e ek eo = noacc-with (noacc Data v e (b .standing) (here b (p .0)) .party) v e 1 (plain-spent Empty) (from-held v e (kind-data (isActive (here b (p .0))) (isPolled (atnOf b) (here b (p .0))) ek .1) eo)
+    noacc-kind Status v e ek eo = noacc-with (noacc Status v e (b .standing) (here b (p .0)) .party) v false 0 (plain-spent (here b (p .0) .held)) (omega arith)
 
     ready-good : (o : Slot) → offer (isPolled (atnOf b) (here b (p .0))) (here b (p .0)) ≡ o → G (ready o kind (lines b) (b .standing) p (here b (p .0)))
-    unfolding G
-    ready-good Empty eo = moved Sgns (λ e. no (cc))
+    ready-good Empty eo = moved Sgns (λ e. no (cc)) (λ e. no (cc))
     ready-good (Full v e) eo = cond-elim G (lines b .nrfd) (λ _. stays)
         (λ nr. cond-elim G (lines b .ndac) (λ _. put-kind kind v e refl eo nr) (λ _. noacc-kind kind v e refl eo))
-      where
-        stays : G (stay (b .standing) (here b (p .0)))
-        stays = stay-good b I p l
 
   -- The byte ends: party p sent it, and nobody is left to take it.
   module _ (st : here b (p .0) .source ≡ Strs) (nd : lines b .ndac ≡ false) where
@@ -170,12 +171,13 @@ module _ (b : Bus) (I : Inv b) (p : Place) (l : p .0 < b .count) (so : isSource 
     ended-good (Byte s Data v e) es = plain-end Data v e refl (its-sender s Data v e es)
     ended-good (Byte s Status v e) es = plain-end Status v e refl (its-sender s Status v e es)
 
+  by-state : (x : Source) → here b (p .0) .source ≡ x → G (sourceStep x (offer (isPolled (atnOf b) (here b (p .0))) (here b (p .0))) kind (lines b) (b .standing) p (here b (p .0)))
+  by-state Sids ex = stays
+  by-state Sgns ex = cond-elim G (isFull (offer (isPolled (atnOf b) (here b (p .0))) (here b (p .0)))) (λ _. moved Sdys (λ e. no (cc)) (λ e. no (cc))) (λ _. stays)
+  by-state Sdys ex = ready-good ex (offer (isPolled (atnOf b) (here b (p .0))) (here b (p .0))) refl
+  by-state Strs ex = cond-elim G (lines b .ndac) (λ _. stays) (λ nd. ended-good ex nd (b .standing) refl)
+
   pub source-good : (x : Source) → here b (p .0) .source ≡ x
       → Good b (call-of.Step p) (turn b (p .0) (sourceStep x (offer (isPolled (atnOf b) (here b (p .0))) (here b (p .0))) (kindOf (isActive (here b (p .0))) (isPolled (atnOf b) (here b (p .0)))) (lines b) (b .standing) p (here b (p .0))))
   unfolding G kind
-  source-good Sids ex = stay-good b I p l
-  source-good Sgns ex = cond-elim G (isFull (offer (isPolled (atnOf b) (here b (p .0))) (here b (p .0))))
-      (λ _. plain-good b (call-of.Step p) I (p .0) l (say ev.Moved 0 false 0) (withSource Sdys (here b (p .0))) (plain-source (here b (p .0)) (here b (p .0)) Sdys (plain-same (here b (p .0))) (λ e. no (cc)) (λ e. no (cc))) (step-caller b I p l) refl refl refl refl)
-      (λ _. stay-good b I p l)
-  source-good Sdys ex = ready-good ex (offer (isPolled (atnOf b) (here b (p .0))) (here b (p .0))) refl
-  source-good Strs ex = cond-elim G (lines b .ndac) (λ _. stay-good b I p l) (λ nd. ended-good ex nd (b .standing) refl)
+  source-good x ex = by-state x ex

@@ -64,13 +64,18 @@ sourceStep Strs o k l st i p = cond (l .ndac) (stay st p) (ended st p)
 
 -- Acceptor step.
 
--- "Taking with ATN false fills data-in; with ATN true the byte is heard."
+-- "Taking with ATN false fills data-in"
+abbrev pub taking : ℕ → Bool → Standing → Party → Effect
+taking v e st p = does (say ev.Took v e 0) (withAcceptor Acds (withInput (Full v e) p)) st
+
+-- "with ATN true the byte is heard"
+abbrev pub hearing : ℕ → Bool → Standing → Party → Effect
+hearing v e st p = does (say (hearEvent (meaning v) (p .role .listen)) v e 0) (withAcceptor Acds (heardBy v p)) st
+
+-- "take and go to ACDS": what is taken is the byte that stands.
 abbrev pub take : Bool → Standing → Party → Effect
 take atn Nothing p = stay Nothing p
-take atn (Byte s k v e) p =
-    cond atn
-    (does (say (hearEvent (meaning v) (p .role .listen)) v e 0) (withAcceptor Acds (heardBy v p)) (Byte s k v e))
-    (does (say ev.Took v e 0) (withAcceptor Acds (withInput (Full v e) p)) (Byte s k v e))
+take atn (Byte s k v e) p = cond atn (hearing v e (Byte s k v e) p) (taking v e (Byte s k v e) p)
 
 -- "ANRS: to ACRS if ATN is true or data-in is empty. ACRS: if DAV, take and go to ACDS. ACDS: to AWNS. AWNS: to ANRS if DAV is false. AIDS: stay."
 abbrev pub acceptorStep : Acceptor → Lines → Standing → Party → Effect
