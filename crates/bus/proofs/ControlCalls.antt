@@ -11,6 +11,7 @@ use lib.ListN.{length, set, length-set}
 use borrow.Author.Tests.{eq-eqb}
 use Rattle.party.specs.Parts.{idle, isFull, one, heldBytes, withAcceptor}
 use Rattle.party.specs.Driving.{isActive}
+use Rattle.party.specs.Clearing.{wiped, cleared, clearDrops}
 use Rattle.party.specs.Settling.{changeControl, settled}
 use Rattle.party.proofs.Logic.{no, test, cond-elim}
 use Rattle.party.proofs.Roles.{nameOf, Single, Weak, weak-unaddressed}
@@ -24,7 +25,7 @@ use Rattle.bus.specs.Types.call-of
 use Rattle.bus.specs.Words.{isAccepted}
 use Rattle.bus.specs.Record.{here, lines, sendsCommand}
 use Rattle.bus.specs.Settling.{say, settleAs, alarm, touch, deserted}
-use Rattle.bus.specs.Calls.{quiet, controlled, wiped, resetAcceptor, cleared, clearDrops, linesAnswer}
+use Rattle.bus.specs.Calls.{quiet, controlled, resetAcceptor, linesAnswer}
 use Rattle.bus.specs.Refusals.{inStandby, standbyRefusal, refusal}
 use Rattle.bus.specs.Machine.{accepted}
 use Rattle.bus.specs.Delivery.{wrote, held}

@@ -1,21 +1,18 @@
 -- What holds of every bus that an accepted build and any calls lead to. Later work cites these, and not the invariant.
 -- Assumes nothing.
 use mathlib.Core.Path.{_≡_, refl, sym, ap, _∙_}
-use mathlib.Core.Bool.{Bool, true, false, not}
+use mathlib.Core.Bool.{Bool, true, false}
 use mathlib.Core.List.{List}
-use Prim.Native.Nat.{ℕ, _<_}
-use native.Mathlib.Omega.{arith}
-use lib.ListN.{length}
+use Prim.Native.Nat.{ℕ}
 use borrow.Author.Tests.{eq-eqb}
 use Rattle.party.specs.Parts.{isFull}
-use Rattle.party.specs.Driving.{isActive}
 use Rattle.party.specs.Sending.{isSource, isPolled}
 use Rattle.party.specs.Settling.{settled}
 use Rattle.party.proofs.Logic.{no, test, cond-elim}
 use Rattle.party.proofs.Settled.{settled-source}
-use Rattle.bus.specs.Types.{Place, Party, Active, Source, Sids, Strs, Aids, Acrs, Kind, Command, Data, Status, Standing, Nothing, Byte, Bus, Answer, Call}
+use Rattle.bus.specs.Types.{Place, Party, Sids, Strs, Aids, Acrs, Kind, Command, Data, Status, Byte, Bus, Answer, Call}
 use Rattle.bus.specs.Types.ruling
-use Rattle.bus.specs.Record.{here, stands, lines, built, badBuild, build}
+use Rattle.bus.specs.Record.{here, built, badBuild, build}
 use Rattle.bus.specs.Machine as m
 use Rattle.bus.proofs.Invariant.{sentBy, ofStatus, ofData, standsOf, Inv, atnOf, quiet}
 use Rattle.bus.proofs.Putting.{source-unique}

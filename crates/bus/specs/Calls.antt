@@ -1,14 +1,15 @@
 -- The host's calls, once they are accepted (document 01, "The host's calls"). Each is an effect on the party that it names.
 -- Assumes nothing.
 use Prim.Native.Nat.{ℕ, _+_}
-use mathlib.Core.Bool.{Bool, false, cond, _&&_}
+use mathlib.Core.Bool.{Bool, false, cond}
 use lib.ListN.{set}
-use Rattle.party.specs.Parts.{isFull, one, heldBytes, withFlags, unaddressed, withRole, withControl, withAcceptor, withHeld, withInput, withRequest}
+use Rattle.party.specs.Parts.{heldBytes, withFlags, withRole, withAcceptor, withHeld, withInput, withRequest}
 use Rattle.party.specs.Driving.{isActive}
+use Rattle.party.specs.Clearing.{wiped, cleared, clearDrops}
 use Rattle.party.specs.Settling.{changeControl}
 use Rattle.parties.specs.Places.{each, total}
 use Rattle.parties.specs.Lines.{linesByte}
-use Rattle.bus.specs.Types.{Role, Party, Acceptor, Aids, Anrs, Awns, Control, Idle, Active, Slot, Empty, Full, Lines, Standing, Bus, Answer, Effect}
+use Rattle.bus.specs.Types.{Party, Acceptor, Aids, Anrs, Awns, Control, Active, Slot, Empty, Full, Lines, Standing, Bus, Answer, Effect}
 use Rattle.bus.specs.Types.ev
 use Rattle.bus.specs.Record.{here, lines}
 use Rattle.bus.specs.Settling.{say, settle, attend, touch, alarm}
@@ -54,13 +55,6 @@ controlled c st p = quiet (heldBytes p) st (changeControl c p)
 abbrev pub drop : Standing → Party → Effect
 drop st p = quiet (heldBytes p) st (withHeld Empty p)
 
-abbrev pub flagsOff : Role → Role
-flagsOff r = unaddressed (r .address)
-
--- "Reset: flags off, control idle, held byte dropped, data-in emptied, poll register kept"
-abbrev pub wiped : Party → Party
-wiped p = withRole (flagsOff (p .role)) (withControl Idle (withHeld Empty (withInput Empty p)))
-
 -- "then, unless it was active, AIDS if ATN is false, else AWNS when DAV is true, else ANRS"
 abbrev pub resetAcceptor : Lines → Acceptor
 resetAcceptor l = cond (l .atn) (joining (l .dav)) Aids
@@ -70,13 +64,6 @@ reset b i p =
     cond (isActive p)
     (alarm b i (quiet (heldBytes p) (b .standing) (wiped p)))
     (touch b i (quiet (heldBytes p) (b .standing) (withAcceptor (resetAcceptor (lines b)) (wiped p))))
-
--- "Interface clear: talk, listen and poll mode off everywhere, all control idle": a party that stops being active loses its held byte.
-abbrev pub cleared : Party → Party
-cleared p = withRole (flagsOff (p .role)) (withControl Idle (withHeld (cond (isActive p) Empty (p .held)) p))
-
-abbrev pub clearDrops : Party → ℕ
-clearDrops p = one (isActive p && isFull (p .held))
 
 -- "the system party active, its held byte dropped"
 abbrev pub clear : Bus → ℕ → Answer

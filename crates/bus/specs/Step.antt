@@ -46,19 +46,26 @@ abbrev pub heardBy : ℕ → Party → Party
 heardBy v p = withRole (hear (meaning v) (p .role)) p
 
 -- "event ended, to SGNS, and a command is then heard by its own sender too"
-abbrev pub ended : Standing → Party → Effect
-ended Nothing p = stay Nothing p
-ended (Byte s k v e) p = record {
+abbrev pub endedByte : Kind → ℕ → Bool → Party → Effect
+endedByte k v e p = record {
   said = say ev.Ended v e 0;
   passes = ofCommand k && passesControl (meaning v);
   party = withSource Sgns (cond (ofCommand k) (heardBy v p) p);
   standing = Nothing;
 }
 
--- "SGNS: with a byte on offer .. to SDYS." "STRS: NDAC false, event ended ..; else stay." Settling leaves no source in SIDS.
+abbrev pub ended : Standing → Party → Effect
+ended Nothing p = stay Nothing p
+ended (Byte s k v e) p = endedByte k v e p
+
+-- "SGNS: with a byte on offer .. to SDYS."
+abbrev pub offering : Bool → Standing → Party → Effect
+offering full st p = cond full (move st (withSource Sdys p)) (stay st p)
+
+-- "STRS: NDAC false, event ended ..; else stay." Settling leaves no source in SIDS.
 abbrev pub sourceStep : Source → Slot → Kind → Lines → Standing → Place → Party → Effect
 sourceStep Sids o k l st i p = stay st p
-sourceStep Sgns o k l st i p = cond (isFull o) (move st (withSource Sdys p)) (stay st p)
+sourceStep Sgns o k l st i p = offering (isFull o) st p
 sourceStep Sdys o k l st i p = ready o k l st i p
 sourceStep Strs o k l st i p = cond (l .ndac) (stay st p) (ended st p)
 
@@ -77,10 +84,14 @@ abbrev pub take : Bool → Standing → Party → Effect
 take atn Nothing p = stay Nothing p
 take atn (Byte s k v e) p = cond atn (hearing v e (Byte s k v e) p) (taking v e (Byte s k v e) p)
 
--- "ANRS: to ACRS if ATN is true or data-in is empty. ACRS: if DAV, take and go to ACDS. ACDS: to AWNS. AWNS: to ANRS if DAV is false. AIDS: stay."
+-- "ANRS: to ACRS if ATN is true or data-in is empty."
+abbrev pub readying : Bool → Bool → Standing → Party → Effect
+readying atn full st p = cond (atn || not full) (move st (withAcceptor Acrs p)) (stay st p)
+
+-- "ACRS: if DAV, take and go to ACDS. ACDS: to AWNS. AWNS: to ANRS if DAV is false. AIDS: stay."
 abbrev pub acceptorStep : Acceptor → Lines → Standing → Party → Effect
 acceptorStep Aids l st p = stay st p
-acceptorStep Anrs l st p = cond (l .atn || not (isFull (p .input))) (move st (withAcceptor Acrs p)) (stay st p)
+acceptorStep Anrs l st p = readying (l .atn) (isFull (p .input)) st p
 acceptorStep Acrs l st p = cond (l .dav) (take (l .atn) st p) (stay st p)
 acceptorStep Acds l st p = move st (withAcceptor Awns p)
 acceptorStep Awns l st p = cond (l .dav) (stay st p) (move st (withAcceptor Anrs p))

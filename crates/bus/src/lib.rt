@@ -4,6 +4,10 @@ use party::Kind;
 use party::Party;
 use party::Place;
 
+pub mod acceptor_step;
+pub mod effects;
+pub mod source_step;
+
 // Document 01's standing byte: its sender, kind, value and END. It stands exactly while its sender is in STRS.
 pub enum Standing {
     Nothing,

@@ -5,3 +5,4 @@ pub mod Driving
 pub mod Hearing
 pub mod Sending
 pub mod Settling
+pub mod Clearing
