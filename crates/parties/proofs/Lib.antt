@@ -1,1 +1,3 @@
+-- Laws of places, which the proofs of the calls and of demand 3 cite, and of the loops over them.
 pub mod Places
+pub mod Loops

@@ -1,7 +1,7 @@
 -- The lines of the bus, and the lines answer.
 -- Assumes nothing.
 use Prim.Native.Nat.{ℕ, _+_}
-use mathlib.Core.Bool.{Bool, cond}
+use mathlib.Core.Bool.{Bool, cond, _||_}
 use mathlib.Core.List.{List}
 use Rattle.party.specs.Driving.{isActive, drivesDav, drivesNrfd, drivesNdac, drivesSrq}
 use Rattle.parties.specs.Types.{Party, Lines}
@@ -17,6 +17,17 @@ linesOf n ps eoi = record {
   ndac = some n drivesNdac ps;
   eoi = eoi;
   srq = some n drivesSrq ps;
+}
+
+-- The lines with those that one party more drives.
+abbrev pub driven : Lines → Party → Lines
+driven l p = record {
+  atn = l .atn || isActive p;
+  dav = l .dav || drivesDav p;
+  nrfd = l .nrfd || drivesNrfd p;
+  ndac = l .ndac || drivesNdac p;
+  eoi = l .eoi;
+  srq = l .srq || drivesSrq p;
 }
 
 -- "The lines answer is ATN 128, DAV 64, NDAC 32, NRFD 16, EOI 8, SRQ 4".

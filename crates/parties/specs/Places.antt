@@ -4,8 +4,11 @@ use Prim.Native.Nat.{ℕ, zero, suc, _+_}
 use mathlib.Core.Bool.{Bool, true, false, cond, _||_}
 use mathlib.Core.List.{List, [], _∷_}
 use lib.ListN.{getD, set}
+use lib.Dec.{ltb}
 use Rattle.party.specs.Parts.{idle}
-use Rattle.parties.specs.Types.{Place, Party, Found, Nowhere, At}
+use Rattle.party.specs.Settling.{attended, settled}
+use Rattle.party.specs.Clearing.{cleared}
+use Rattle.parties.specs.Types.{Place, Party, Found, Nowhere, At, Change, Settle, Attend, Clear}
 
 abbrev pub place : ℕ → Place
 place i = record { 0 = i }
@@ -38,10 +41,29 @@ firstFrom i zero f ps = Nowhere
 firstFrom i (suc n) f [] = Nowhere
 firstFrom i (suc n) f (p ∷ ps) = cond (f p) (At (place i)) (firstFrom (suc i) n f ps)
 
+abbrev pub talks : Party → Bool
+talks p = p .role .talk
+
+abbrev pub firstTalker : ℕ → List Party → Found
+firstTalker n ps = firstFrom 0 n talks ps
+
 -- "the talk-on party other than the sender, if there is one"; "another's talk"
 abbrev pub otherTalker : ℕ → ℕ → List Party → Found
-otherTalker n i ps = firstFrom 0 n (λ p. p .role .talk) (set ps i idle)
+otherTalker n i ps = firstTalker n (set ps i idle)
 
 abbrev pub isFound : Found → Bool
 isFound Nowhere = false
 isFound (At p) = true
+
+-- How the code goes through the places, of which there are fifteen: a search goes on until it has found; one change for every party.
+abbrev pub within : ℕ → ℕ
+within n = cond (ltb n 15) n 15
+
+abbrev pub seek : Found → Place → Bool → Found
+seek Nowhere p hit = cond hit (At p) Nowhere
+seek (At q) p hit = At q
+
+abbrev pub changed : Change → Party → Party
+changed (Settle atn) p = settled atn p
+changed (Attend atn) p = settled atn (attended atn p)
+changed Clear p = cleared p

@@ -5,6 +5,8 @@ ghost use Rattle.parties.specs.Lines.{weight, linesByte};
 use party::Party;
 use party::Place;
 
+pub mod every;
+
 // The six lines of the bus, true where driven.
 pub struct Lines {
     pub atn: bool,
@@ -19,6 +21,13 @@ pub struct Lines {
 pub enum Found {
     Nowhere,
     At(Place),
+}
+
+// What a call does to every party: settling, attention and settling, or the first part of an interface clear.
+pub enum Change {
+    Settle(bool),
+    Attend(bool),
+    Clear,
 }
 
 // The weight of a line in the lines answer.

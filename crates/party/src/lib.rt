@@ -4,6 +4,7 @@ ghost use Rattle.message.specs.Meaning.{meaning};
 ghost use Rattle.party.specs.Parts.{newborn, unaddressed};
 use message::Address;
 
+pub mod clearing;
 pub mod driving;
 pub mod hearing;
 pub mod parts;

@@ -22,12 +22,14 @@ does-requires c κs = search needs
 
 returns : tie.Need-returns
 returns c =
-    simp (c .does .ensures,
-    c .before .with-acceptor .ensures,
-    c .before .before .heard-by .ensures,
-    c .before .before .before .say .ensures,
-    c .before .before .before .before .hear-event .ensures,
-    c .before .before .before .before .before .meaning-of .ensures)
+    simp (
+      c .does .ensures,
+      c .before .with-acceptor .ensures,
+      c .before .before .heard-by .ensures,
+      c .before .before .before .say .ensures,
+      c .before .before .before .before .hear-event .ensures,
+      c .before .before .before .before .before .meaning-of .ensures,
+    )
 
 pub hears-spec : {M : Type 1} → statement M
 hears-spec =

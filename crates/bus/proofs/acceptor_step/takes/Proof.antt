@@ -16,10 +16,12 @@ does-requires c κs = search needs
 
 returns : tie.Need-returns
 returns c =
-    simp (c .does .ensures,
-    c .before .say .ensures,
-    c .before .before .with-acceptor .ensures,
-    c .before .before .before .with-input .ensures)
+    simp (
+      c .does .ensures,
+      c .before .say .ensures,
+      c .before .before .with-acceptor .ensures,
+      c .before .before .before .with-input .ensures,
+    )
 
 pub takes-spec : {M : Type 1} → statement M
 takes-spec =

@@ -25,13 +25,15 @@ say-requires c κs = search needs
 
 returns : tie.Need-returns
 returns c =
-    simp (c .say .ensures,
-    c .before .both .ensures,
-    c .before .before .passes-control .ensures,
-    c .before .before .before .meaning-of .ensures,
-    c .before .before .before .before .with-source .ensures,
-    c .before .before .before .before .before .own-heard .ensures,
-    c .before .before .before .before .before .before .is-command .ensures)
+    simp (
+      c .say .ensures,
+      c .before .both .ensures,
+      c .before .before .passes-control .ensures,
+      c .before .before .before .meaning-of .ensures,
+      c .before .before .before .before .with-source .ensures,
+      c .before .before .before .before .before .own-heard .ensures,
+      c .before .before .before .before .before .before .is-command .ensures,
+    )
 
 pub byte-ended-spec : {M : Type 1} → statement M
 byte-ended-spec =

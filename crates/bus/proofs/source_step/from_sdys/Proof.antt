@@ -25,35 +25,43 @@ not-accepted-requires c κs = search needs
 
 returns : tie.Need-returns
 returns c =
-    simp (c .moved .ensures,
-    c .before .with-source .ensures,
-    c .before .before .enum-told .given .1)
+    simp (
+      c .moved .ensures,
+      c .before .with-source .ensures,
+      c .before .before .enum-told .given .1,
+    )
 
 returns-2 : tie.Need-returns-2
 returns-2 c =
-    simp (c .stay .ensures,
-    c .before .if1 .taken,
-    c .before .before .known-told .given .1,
-    c .before .before .before .offer .given .1,
-    c .before .before .before .before .match .keys2)
+    simp (
+      c .stay .ensures,
+      c .before .if1 .taken,
+      c .before .before .known-told .given .1,
+      c .before .before .before .offer .given .1,
+      c .before .before .before .before .match .keys2,
+    )
 
 returns-3 : tie.Need-returns-3
 returns-3 c =
-    simp (c .put-up .ensures,
-    c .before .if2 .taken,
-    c .before .before .if1 .left,
-    c .before .before .before .known-told .given .1,
-    c .before .before .before .before .offer .given .1,
-    c .before .before .before .before .before .match .keys2)
+    simp (
+      c .put-up .ensures,
+      c .before .if2 .taken,
+      c .before .before .if1 .left,
+      c .before .before .before .known-told .given .1,
+      c .before .before .before .before .offer .given .1,
+      c .before .before .before .before .before .match .keys2,
+    )
 
 returns-4 : tie.Need-returns-4
 returns-4 c =
-    simp (c .not-accepted .ensures,
-    c .before .if2 .left,
-    c .before .before .if1 .left,
-    c .before .before .before .known-told .given .1,
-    c .before .before .before .before .offer .given .1,
-    c .before .before .before .before .before .match .keys2)
+    simp (
+      c .not-accepted .ensures,
+      c .before .if2 .left,
+      c .before .before .if1 .left,
+      c .before .before .before .known-told .given .1,
+      c .before .before .before .before .offer .given .1,
+      c .before .before .before .before .before .match .keys2,
+    )
 
 pub from-sdys-spec : {M : Type 1} → statement M
 from-sdys-spec =

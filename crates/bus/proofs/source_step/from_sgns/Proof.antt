@@ -13,14 +13,18 @@ stay-requires c κs = search needs
 
 returns : tie.Need-returns
 returns c =
-    simp (c .moved .ensures,
-    c .before .with-source .ensures,
-    c .before .before .if1 .taken)
+    simp (
+      c .moved .ensures,
+      c .before .with-source .ensures,
+      c .before .before .if1 .taken,
+    )
 
 returns-2 : tie.Need-returns-2
 returns-2 c =
-    simp (c .stay .ensures,
-    c .before .if1 .left)
+    simp (
+      c .stay .ensures,
+      c .before .if1 .left,
+    )
 
 pub from-sgns-spec : {M : Type 1} → statement M
 from-sgns-spec =

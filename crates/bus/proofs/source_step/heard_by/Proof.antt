@@ -13,9 +13,11 @@ with-role-requires c κs = search needs
 
 returns : tie.Need-returns
 returns c =
-    simp (c .with-role .ensures,
-    c .before .heard .ensures,
-    c .before .before .meaning-of .ensures)
+    simp (
+      c .with-role .ensures,
+      c .before .heard .ensures,
+      c .before .before .meaning-of .ensures,
+    )
 
 pub heard-by-spec : {M : Type 1} → statement M
 heard-by-spec = tie.close (tie.spec meaning-of-requires heard-requires with-role-requires returns)

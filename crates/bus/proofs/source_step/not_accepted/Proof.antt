@@ -19,11 +19,13 @@ does-requires c κs = search needs
 
 returns : tie.Need-returns
 returns c =
-    simp (c .does .ensures,
-    c .before .after-noacc .ensures,
-    c .before .before .say .ensures,
-    c .before .before .before .noacc-drops .ensures,
-    c .before .before .before .before .end .ensures)
+    simp (
+      c .does .ensures,
+      c .before .after-noacc .ensures,
+      c .before .before .say .ensures,
+      c .before .before .before .noacc-drops .ensures,
+      c .before .before .before .before .end .ensures,
+    )
 
 pub not-accepted-spec : {M : Type 1} → statement M
 not-accepted-spec =

@@ -16,15 +16,19 @@ byte-ended-requires c κs = search needs
 
 returns : tie.Need-returns
 returns c =
-    simp (c .stay .ensures,
-    c .before .enum-told .given .1)
+    simp (
+      c .stay .ensures,
+      c .before .enum-told .given .1,
+    )
 
 returns-2 : tie.Need-returns-2
 returns-2 c =
-    simp (c .byte-ended .ensures,
-    c .before .known-told .given .1,
-    c .before .before .st .given .1,
-    c .before .before .before .match .keys2)
+    simp (
+      c .byte-ended .ensures,
+      c .before .known-told .given .1,
+      c .before .before .st .given .1,
+      c .before .before .before .match .keys2,
+    )
 
 pub over-spec : {M : Type 1} → statement M
 over-spec =

@@ -7,8 +7,10 @@ heard-by-requires c κs = search needs
 
 returns : tie.Need-returns
 returns c =
-    simp (c .heard-by .ensures,
-    c .before .if1 .taken)
+    simp (
+      c .heard-by .ensures,
+      c .before .if1 .taken,
+    )
 
 returns-2 : tie.Need-returns-2
 returns-2 c = search needs

@@ -19,11 +19,13 @@ does-requires c κs = search needs
 
 returns : tie.Need-returns
 returns c =
-    simp (c .does .ensures,
-    c .before .after-put .ensures,
-    c .before .before .say .ensures,
-    c .before .before .before .put-event .ensures,
-    c .before .before .before .before .end .ensures)
+    simp (
+      c .does .ensures,
+      c .before .after-put .ensures,
+      c .before .before .say .ensures,
+      c .before .before .before .put-event .ensures,
+      c .before .before .before .before .end .ensures,
+    )
 
 pub put-up-spec : {M : Type 1} → statement M
 put-up-spec =

@@ -34,31 +34,41 @@ over-requires c κs = search needs
 
 returns : tie.Need-returns
 returns c =
-    simp (c .stay .ensures,
-    c .before .enum-told .given .1)
+    simp (
+      c .stay .ensures,
+      c .before .enum-told .given .1,
+    )
 
 returns-2 : tie.Need-returns-2
 returns-2 c =
-    simp (c .from-sgns .ensures,
-    c .before .is-full .ensures,
-    c .before .before .enum-told2 .given .1)
+    simp (
+      c .from-sgns .ensures,
+      c .before .is-full .ensures,
+      c .before .before .enum-told2 .given .1,
+    )
 
 returns-3 : tie.Need-returns-3
 returns-3 c =
-    simp (c .from-sdys .ensures,
-    c .before .enum-told3 .given .1)
+    simp (
+      c .from-sdys .ensures,
+      c .before .enum-told3 .given .1,
+    )
 
 returns-4 : tie.Need-returns-4
 returns-4 c =
-    simp (c .stay2 .ensures,
-    c .before .if1 .taken,
-    c .before .before .enum-told4 .given .1)
+    simp (
+      c .stay2 .ensures,
+      c .before .if1 .taken,
+      c .before .before .enum-told4 .given .1,
+    )
 
 returns-5 : tie.Need-returns-5
 returns-5 c =
-    simp (c .over .ensures,
-    c .before .if1 .left,
-    c .before .before .enum-told4 .given .1)
+    simp (
+      c .over .ensures,
+      c .before .if1 .left,
+      c .before .before .enum-told4 .given .1,
+    )
 
 pub step-by-spec : {M : Type 1} → statement M
 step-by-spec =

@@ -1,0 +1,39 @@
+use borrow.Author.Needs.{needs}
+use Rattle.party.proofs.Party.wiped.Statement.{statement}
+use Rattle.party.proofs.Party.wiped.Tie as tie
+
+with-input-requires : tie.Need-with-input-requires
+with-input-requires c κs = search needs
+
+with-held-requires : tie.Need-with-held-requires
+with-held-requires c κs = search needs
+
+with-control-requires : tie.Need-with-control-requires
+with-control-requires c κs = search needs
+
+flags-off-requires : tie.Need-flags-off-requires
+flags-off-requires c κs = search needs
+
+with-role-requires : tie.Need-with-role-requires
+with-role-requires c κs = search needs
+
+returns : tie.Need-returns
+returns c =
+    simp (
+      c .with-role .ensures,
+      c .before .flags-off .ensures,
+      c .before .before .with-control .ensures,
+      c .before .before .before .with-held .ensures,
+      c .before .before .before .before .with-input .ensures,
+    )
+
+pub wiped-spec : {M : Type 1} → statement M
+wiped-spec =
+    tie.close
+    (tie.spec
+    with-input-requires
+    with-held-requires
+    with-control-requires
+    flags-off-requires
+    with-role-requires
+    returns)
