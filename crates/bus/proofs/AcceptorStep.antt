@@ -44,7 +44,7 @@ hear-event v l = hear-events TakeEvent
 module _ (b : Bus) (I : Inv b) (p : Place) (l : p .0 < b .count) (ns : isSource (atnOf b) (here b (p .0)) ≡ false) where
   -- what an effect of this step comes to
   G : Effect → Type 0
-  G e = Good b (call-of.Step p) (turn b (p .0) e)
+  G e = Good b (call-of.Step p) (turn (atnOf b) b (p .0) e)
 
   not-active : isActive (here b (p .0)) ≡ false
   not-active = test (isActive (here b (p .0))) (λ h. let z = source-of-active (atnOf b) (here b (p .0)) h in no (cc)) (λ h. h)
@@ -57,7 +57,7 @@ module _ (b : Bus) (I : Inv b) (p : Place) (l : p .0 < b .count) (ns : isSource 
 
   stays : (st : Standing) → b .standing ≡ st → G (stay st (here b (p .0)))
   unfolding G
-  stays st es = subst (λ (x : Standing). Good b (call-of.Step p) (touch b (p .0) (stay x (here b (p .0))))) es (stay-good b I p l)
+  stays st es = subst (λ (x : Standing). Good b (call-of.Step p) (touch (atnOf b) b (p .0) (stay x (here b (p .0))))) es (stay-good b I p l)
 
   hear-good : (s : Place) (k : Kind) (v : ℕ) (e : Bool) → here b (p .0) .acceptor ≡ Acrs → b .standing ≡ Byte s k v e → atnOf b ≡ true
       → G (hearing v e (b .standing) (here b (p .0)))
@@ -207,6 +207,6 @@ module _ (b : Bus) (I : Inv b) (p : Place) (l : p .0 < b .count) (ns : isSource 
   by-state Awns ea = cond-elim G (lines b .dav) (λ _. stays (b .standing) refl)
       (λ d. shift-good _ (λ s e. let z = none-stands d in no (cc)) (λ e. no (cc)) (λ e. no (cc)) (nobody (b .standing) Anrs (here b (p .0) .acceptor) (none-stands d)) (λ s e. no (cc)) (λ t e. no (cc)) (λ e. no (cc)))
 
-  pub accept-good : (x : Acceptor) → here b (p .0) .acceptor ≡ x → Good b (call-of.Step p) (turn b (p .0) (acceptorStep x (lines b) (b .standing) (here b (p .0))))
+  pub accept-good : (x : Acceptor) → here b (p .0) .acceptor ≡ x → Good b (call-of.Step p) (turn (atnOf b) b (p .0) (acceptorStep x (lines b) (b .standing) (here b (p .0))))
   unfolding G
   accept-good x ea = by-state x ea

@@ -30,8 +30,8 @@ placed-still (suc n) zero atn xs = refl
 placed-still (suc n) (suc m) atn [] = rw (newborn-still atn, placed-still n m atn []) refl
 placed-still (suc n) (suc m) atn (a ∷ xs) = rw (newborn-still atn, placed-still n m atn xs) refl
 
-pub built-settled : (xs : List ℕ) (s : Place) (w : Said) → settle (built xs s) w (built xs s .parties) Nothing .bus ≡ built xs s
-built-settled xs s w = rw (placed-still _ 15 _ xs) refl
+pub built-settled : (xs : List ℕ) (s : Place) (atn : Bool) (w : Said) → settle atn (built xs s) w (built xs s .parties) Nothing .bus ≡ built xs s
+built-settled xs s atn w = rw (placed-still _ 15 _ xs) refl
 
 -- the places
 placed-length : (n : ℕ) (xs : List ℕ) → length (placed n xs) ≡ n

@@ -100,12 +100,12 @@ module _ (b : Bus) (I : Inv b) (p : Place) where
       new : Party
       new = changeControl x (here b (p .0))
 
-  pub take-good : isAccepted (refusal b (call-of.TakeControl p)) ≡ true → Good b (call-of.TakeControl p) (accepted b (call-of.TakeControl p))
+  pub take-good : isAccepted (refusal (lines b) b (call-of.TakeControl p)) ≡ true → Good b (call-of.TakeControl p) (accepted (lines b) b (call-of.TakeControl p))
   take-good ok = let r = known b p (cond (inStandby (here b (p .0) .control)) ruling.Accepted ruling.Role) ok in
       let h = standby-busy (here b (p .0) .control) (if-so (inStandby (here b (p .0) .control)) ruling.Accepted ruling.Role refl (r .1) .0) in
       controlled-good (call-of.TakeControl p) Active refl (r .0) (h .0) (standing-by (h .1))
 
-  pub standby-good : isAccepted (refusal b (call-of.GoToStandby p)) ≡ true → Good b (call-of.GoToStandby p) (accepted b (call-of.GoToStandby p))
+  pub standby-good : isAccepted (refusal (lines b) b (call-of.GoToStandby p)) ≡ true → Good b (call-of.GoToStandby p) (accepted (lines b) b (call-of.GoToStandby p))
   standby-good ok = let r = known b p (standbyRefusal (isActive (here b (p .0))) (sendsCommand (p .0) (b .standing))) ok in
       let a = if-so (isActive (here b (p .0))) (cond (sendsCommand (p .0) (b .standing)) ruling.Standing ruling.Accepted) ruling.Role refl (r .1) in
       let f = if-not (sendsCommand (p .0) (b .standing)) ruling.Accepted ruling.Standing refl (a .1) .0 in
@@ -113,7 +113,7 @@ module _ (b : Bus) (I : Inv b) (p : Place) where
 
   -- reset of a party that is not active
   reset-off : p .0 < b .count → isActive (here b (p .0)) ≡ false
-      → Good b (call-of.Reset p) (touch b (p .0) (quiet (heldBytes (here b (p .0))) (b .standing) (withAcceptor (resetAcceptor (lines b)) (wiped (here b (p .0))))))
+      → Good b (call-of.Reset p) (touch (atnOf b) b (p .0) (quiet (heldBytes (here b (p .0))) (b .standing) (withAcceptor (resetAcceptor (lines b)) (wiped (here b (p .0))))))
   reset-off l na = kept-good b (call-of.Reset p) I (p .0) l (say ev.None 0 false (heldBytes (here b (p .0)))) new
       (record {
         name = refl;
@@ -170,7 +170,7 @@ module _ (b : Bus) (I : Inv b) (p : Place) where
           split true true a f g e = f refl refl
           split true false a f g e = g e
 
-  pub reset-good : isAccepted (refusal b (call-of.Reset p)) ≡ true → Good b (call-of.Reset p) (accepted b (call-of.Reset p))
+  pub reset-good : isAccepted (refusal (lines b) b (call-of.Reset p)) ≡ true → Good b (call-of.Reset p) (accepted (lines b) b (call-of.Reset p))
   reset-good ok = let r = known b p (cond (sendsCommand (p .0) (b .standing)) ruling.Standing ruling.Accepted) ok in
       let f = if-not (sendsCommand (p .0) (b .standing)) ruling.Accepted ruling.Standing refl (r .1) .0 in
       cond-elim (Good b (call-of.Reset p)) (isActive (here b (p .0)))
@@ -230,7 +230,7 @@ module _ (b : Bus) (I : Inv b) (i : ℕ) (l : i < b .count) where
       let k = total-split (b .count) heldBytes clearDrops cleared (b .parties) cleared-held in
       let e = ap (λ (w : ℕ → Party). heldBytes (w i)) cleared-at in omega arith
 
-pub clear-good : (b : Bus) → Inv b → (p : Place) → isAccepted (refusal b (call-of.InterfaceClear p)) ≡ true → Good b (call-of.InterfaceClear p) (accepted b (call-of.InterfaceClear p))
+pub clear-good : (b : Bus) → Inv b → (p : Place) → isAccepted (refusal (lines b) b (call-of.InterfaceClear p)) ≡ true → Good b (call-of.InterfaceClear p) (accepted (lines b) b (call-of.InterfaceClear p))
 unfolding chief all-cleared
 clear-good b I p ok = let r = known b p (cond (eqb (p .0) (b .system .0)) ruling.Accepted ruling.Role) ok in
     alarm-good b (call-of.InterfaceClear p) I (total (b .count) clearDrops (b .parties) + heldBytes (cleared (here b (p .0)))) (set (all-cleared b I (p .0) (r .0)) (p .0) (chief b I (p .0) (r .0)))
@@ -238,9 +238,9 @@ clear-good b I p ok = let r = known b p (cond (eqb (p .0) (b .system .0)) ruling
     (clear-raw b I (p .0) (r .0)) (clear-held b I (p .0) (r .0))
 
 -- lines
-pub lines-good : (b : Bus) → Inv b → Good b call-of.Lines (linesAnswer b)
+pub lines-good : (b : Bus) → Inv b → Good b call-of.Lines (linesAnswer (lines b) b)
 lines-good b I = record {
-  inv = settle-inv b s (b .parties) (b .standing) (I .size) (I .small) (I .pre);
+  inv = settle-inv b (atnOf b) s (b .parties) (b .standing) (I .size) (I .small) refl (I .pre);
   shape = shape (deserted t (b .parties) (b .standing)) refl;
   bytes = rw (total-each (b .count) heldBytes (settled t) (b .parties) (λ p. refl)) refl;
   takes = λ h. no (cc);

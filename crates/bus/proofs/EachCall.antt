@@ -14,7 +14,7 @@ use Rattle.bus.specs.Types.{Place, Bus, Answer, Call, Standing, Effect}
 use Rattle.bus.specs.Types.ruling
 use Rattle.bus.specs.Types.call-of
 use Rattle.bus.specs.Words.{isAccepted}
-use Rattle.bus.specs.Record.{here, stands}
+use Rattle.bus.specs.Record.{here, stands, lines}
 use Rattle.bus.specs.Step.{step, turn}
 use Rattle.bus.specs.Refusals.{refusal}
 use Rattle.bus.specs.Machine as m
@@ -29,13 +29,13 @@ use Rattle.bus.proofs.ControlCalls.{take-good, standby-good, reset-good
 use Rattle.bus.proofs.AcceptorStep.{accept-good}
 use Rattle.bus.proofs.SourceStep.{source-good}
 
-step-good : (b : Bus) → Inv b → (p : Place) → isAccepted (refusal b (call-of.Step p)) ≡ true → Good b (call-of.Step p) (step b (p .0))
+step-good : (b : Bus) → Inv b → (p : Place) → isAccepted (refusal (lines b) b (call-of.Step p)) ≡ true → Good b (call-of.Step p) (step (lines b) b (p .0))
 step-good b I p ok = let l = known b p ruling.Accepted ok .0 in
-    cond-elim (λ (e : Effect). Good b (call-of.Step p) (turn b (p .0) e)) (isSource (atnOf b) (here b (p .0)))
+    cond-elim (λ (e : Effect). Good b (call-of.Step p) (turn (atnOf b) b (p .0) e)) (isSource (atnOf b) (here b (p .0)))
     (λ so. source-good b I p l so (here b (p .0) .source) refl)
     (λ ns. accept-good b I p l ns (here b (p .0) .acceptor) refl)
 
-accepted-good : (b : Bus) → Inv b → (c : Call) → isAccepted (refusal b c) ≡ true → Good b c (m.accepted b c)
+accepted-good : (b : Bus) → Inv b → (c : Call) → isAccepted (refusal (lines b) b c) ≡ true → Good b c (m.accepted (lines b) b c)
 accepted-good b I (call-of.Step p) = step-good b I p
 accepted-good b I (call-of.Write p v e) = write-good b I p v e
 accepted-good b I (call-of.Read p) = read-good b I p
@@ -50,7 +50,7 @@ accepted-good b I (call-of.Drop p) = drop-good b I p
 accepted-good b I call-of.Lines = λ _. lines-good b I
 
 pub call-good : (b : Bus) → Inv b → (c : Call) → Good b c (m.call b c)
-call-good b I c = ruled b c I (refusal b c) (m.accepted b c) (accepted-good b I c)
+call-good b I c = ruled b c I (refusal (lines b) b c) (m.accepted (lines b) b c) (accepted-good b I c)
 
 -- the invariant at the end of a list
 pub run-inv : (b : Bus) → Inv b → (cs : List Call) → Inv (m.run b cs)

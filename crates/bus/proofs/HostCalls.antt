@@ -11,13 +11,13 @@ use Rattle.bus.specs.Types.ruling
 use Rattle.bus.specs.Types.ev
 use Rattle.bus.specs.Types.call-of
 use Rattle.bus.specs.Words.{isAccepted}
-use Rattle.bus.specs.Record.{here}
+use Rattle.bus.specs.Record.{here, lines}
 use Rattle.bus.specs.Settling.{say, touch}
 use Rattle.bus.specs.Step.{does}
 use Rattle.bus.specs.Calls.{read, drop}
 use Rattle.bus.specs.Refusals.{ofSwitch, isOn, refusal}
 use Rattle.bus.specs.Machine.{accepted}
-use Rattle.bus.proofs.Invariant.{Inv}
+use Rattle.bus.proofs.Invariant.{Inv, atnOf}
 use Rattle.bus.proofs.Rulings.{if-not, known, switched}
 use Rattle.bus.proofs.Summary.{Good}
 use Rattle.bus.proofs.OneParty.{Plain, plain-good}
@@ -27,31 +27,31 @@ plainly : (p q : Party) → q .role ≡ p .role → q .control ≡ p .control �
 plainly p q r c a s i = record { role = r; control = c; acceptor = a; input = i; strs = λ e. sym s ∙ e; stst = λ e. s ∙ e }
 
 module _ (b : Bus) (I : Inv b) (p : Place) where
-  pub write-good : (v e : ℕ) → isAccepted (refusal b (call-of.Write p v e)) ≡ true → Good b (call-of.Write p v e) (accepted b (call-of.Write p v e))
+  pub write-good : (v e : ℕ) → isAccepted (refusal (lines b) b (call-of.Write p v e)) ≡ true → Good b (call-of.Write p v e) (accepted (lines b) b (call-of.Write p v e))
   write-good v e ok = let r = known b p (ofSwitch e (cond (isFull (here b (p .0) .held)) ruling.Full ruling.Accepted)) ok in
       let s = switched e (cond (isFull (here b (p .0) .held)) ruling.Full ruling.Accepted) (r .1) in
       let h = if-not (isFull (here b (p .0) .held)) ruling.Accepted ruling.Full refl (s .1) .0 in
       plain-good b (call-of.Write p v e) I (p .0) (r .0) (say ev.None 0 false 0) (withHeld (Full v (isOn e)) (here b (p .0)))
       (plainly (here b (p .0)) (withHeld (Full v (isOn e)) (here b (p .0))) refl refl refl refl (λ x. x)) (λ j x. no (cc)) refl refl refl (rw h)
 
-  pub read-good : isAccepted (refusal b (call-of.Read p)) ≡ true → Good b (call-of.Read p) (accepted b (call-of.Read p))
+  pub read-good : isAccepted (refusal (lines b) b (call-of.Read p)) ≡ true → Good b (call-of.Read p) (accepted (lines b) b (call-of.Read p))
   read-good ok = let r = known b p (cond (isFull (here b (p .0) .input)) ruling.Accepted ruling.Empty) ok in go (r .0) (here b (p .0) .input)
     where
-      taken : (x : ℕ) (y : Bool) → p .0 < b .count → Good b (call-of.Read p) (touch b (p .0) (does (say ev.Read x y 0) (withInput Empty (here b (p .0))) (b .standing)))
+      taken : (x : ℕ) (y : Bool) → p .0 < b .count → Good b (call-of.Read p) (touch (atnOf b) b (p .0) (does (say ev.Read x y 0) (withInput Empty (here b (p .0))) (b .standing)))
       taken x y l = plain-good b (call-of.Read p) I (p .0) l (say ev.Read x y 0) (withInput Empty (here b (p .0)))
           (plainly (here b (p .0)) (withInput Empty (here b (p .0))) refl refl refl refl (λ x. refl)) (λ j x. no (cc)) refl refl refl refl
 
-      go : p .0 < b .count → (s : Slot) → Good b (call-of.Read p) (touch b (p .0) (read s (b .standing) (here b (p .0))))
+      go : p .0 < b .count → (s : Slot) → Good b (call-of.Read p) (touch (atnOf b) b (p .0) (read s (b .standing) (here b (p .0))))
       go l Empty = plain-good b (call-of.Read p) I (p .0) l (say ev.None 0 false 0) (here b (p .0)) (plainly (here b (p .0)) (here b (p .0)) refl refl refl refl (λ x. x)) (λ j x. no (cc)) refl refl refl refl
       go l (Full v e) = taken v e l
 
-  pub poll-good : (v : ℕ) → isAccepted (refusal b (call-of.PollRegister p v)) ≡ true → Good b (call-of.PollRegister p v) (accepted b (call-of.PollRegister p v))
+  pub poll-good : (v : ℕ) → isAccepted (refusal (lines b) b (call-of.PollRegister p v)) ≡ true → Good b (call-of.PollRegister p v) (accepted (lines b) b (call-of.PollRegister p v))
   poll-good v ok = plain-good b (call-of.PollRegister p v) I (p .0) (known b p ruling.Accepted ok .0) (say ev.None 0 false 0) new
       (plainly (here b (p .0)) new refl refl refl refl (λ x. x)) (λ j x. no (cc)) refl refl refl refl
     where
       new : Party
       new = withRequest (record { live = here b (p .0) .request .live; saved = v; service = here b (p .0) .request .service }) (here b (p .0))
 
-  pub drop-good : isAccepted (refusal b (call-of.Drop p)) ≡ true → Good b (call-of.Drop p) (accepted b (call-of.Drop p))
+  pub drop-good : isAccepted (refusal (lines b) b (call-of.Drop p)) ≡ true → Good b (call-of.Drop p) (accepted (lines b) b (call-of.Drop p))
   drop-good ok = plain-good b (call-of.Drop p) I (p .0) (known b p ruling.Accepted ok .0) (drop (b .standing) (here b (p .0)) .said) (drop (b .standing) (here b (p .0)) .party)
       (plainly (here b (p .0)) (drop (b .standing) (here b (p .0)) .party) refl refl refl refl (λ x. x)) (λ j x. no (cc)) refl refl refl (omega arith)

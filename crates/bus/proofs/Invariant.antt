@@ -229,17 +229,14 @@ not-true true e = no (cc)
 not-true false e = refl
 
 -- settling makes the invariant of what a call keeps
-pub settle-inv : (b : Bus) (s : Said) (ps : List Party) (st : Standing) → length ps ≡ 15 → b .count ≤ 15 → Pre (b .count) (some (b .count) isActive ps) (at ps) st → Inv (settle b s ps st .bus)
-settle-inv b s ps st z l P = record {
+pub settle-inv : (b : Bus) (t : Bool) (s : Said) (ps : List Party) (st : Standing) → length ps ≡ 15 → b .count ≤ 15 → some (b .count) isActive ps ≡ t → Pre (b .count) t (at ps) st → Inv (settle t b s ps st .bus)
+settle-inv b t s ps st z l a P = record {
   size = length-each (b .count) (settled t) ps ∙ z;
   small = l;
-  pre = seen (b .count) ps fits (P .tail) t (cond (deserted t ps st) Nothing st) refl (go st P (deserted t ps st) refl);
-  still = seen-still (b .count) ps fits (P .tail) t refl;
+  pre = seen (b .count) ps fits (P .tail) t (cond (deserted t ps st) Nothing st) a (go st P (deserted t ps st) refl);
+  still = seen-still (b .count) ps fits (P .tail) t a;
 }
   where
-    t : Bool
-    t = some (b .count) isActive ps
-
     fits : b .count ≤ length ps
     fits = omega arith
 

@@ -83,7 +83,7 @@ module _ (b : Bus) (c : Call) (I : Inv b) (i : ℕ) (l : i < b .count) where
   pub plain-good : (s : Said) (q : Party) → Plain (here b i) q → Caller c i
       → isPut (s .event) ≡ false → isEnd (s .event) ≡ false → isTake (s .event) ≡ false
       → wrote c ruling.Accepted + heldBytes (here b i) ≡ one (isHostPut (s .event)) + s .dropped + heldBytes q
-      → Good b c (touch b i (does s q (b .standing)))
+      → Good b c (touch (atnOf b) b i (does s q (b .standing)))
   plain-good s q H k ip ie it w = kept-good b c I i l s q (plain-kept q H)
       (weak-look (here b) (b .standing) i q (weak-same (look (b .standing) i (here b i)) (look (b .standing) i q) (rw (H .role, H .acceptor))) (I .pre .heard))
       (record {
@@ -97,7 +97,7 @@ module _ (b : Bus) (c : Call) (I : Inv b) (i : ℕ) (l : i < b .count) where
         leaves = λ h e. inl (H .acceptor ∙ e);
       })
 
-  pub seated-good : (s : Said) (q : Party) → Seated b i q → Word b c i s q → Good b c (touch b i (does s q (b .standing)))
+  pub seated-good : (s : Said) (q : Party) → Seated b i q → Word b c i s q → Good b c (touch (atnOf b) b i (does s q (b .standing)))
   seated-good s q S W = kept-good b c I i l s q
       (record {
         name = S .name;
@@ -128,5 +128,5 @@ module _ (b : Bus) (I : Inv b) (p : Place) (l : p .0 < b .count) where
   pub step-caller : Caller (call-of.Step p) (p .0)
   step-caller j e = cc
 
-  pub stay-good : Good b (call-of.Step p) (touch b (p .0) (stay (b .standing) (here b (p .0))))
+  pub stay-good : Good b (call-of.Step p) (touch (atnOf b) b (p .0) (stay (b .standing) (here b (p .0))))
   stay-good = plain-good b (call-of.Step p) I (p .0) l (say ev.None 0 false 0) (here b (p .0)) (plain-same (here b (p .0))) step-caller refl refl refl refl

@@ -49,7 +49,7 @@ atn-unpolled t p e = rw e
 
 module _ (b : Bus) (I : Inv b) (p : Place) (l : p .0 < b .count) (so : isSource (atnOf b) (here b (p .0)) ≡ true) where
   G : Effect → Type 0
-  G e = Good b (call-of.Step p) (turn b (p .0) e)
+  G e = Good b (call-of.Step p) (turn (atnOf b) b (p .0) e)
 
   kind : Kind
   kind = kindOf (isActive (here b (p .0))) (isPolled (atnOf b) (here b (p .0)))
@@ -83,7 +83,7 @@ module _ (b : Bus) (I : Inv b) (p : Place) (l : p .0 < b .count) (so : isSource 
         → new .role ≡ here b (p .0) .role → new .control ≡ here b (p .0) .control → new .acceptor ≡ here b (p .0) .acceptor → new .input ≡ here b (p .0) .input → new .source ≡ Strs
         → Fit (atnOf b) new k y → lines b .nrfd ≡ false
         → heldBytes (here b (p .0)) ≡ one (isHostPut x) + heldBytes new
-        → Good b (call-of.Step p) (touch b (p .0) (does (say x v y 0) new (Byte p k v y)))
+        → Good b (call-of.Step p) (touch (atnOf b) b (p .0) (does (say x v y 0) new (Byte p k v y)))
     put-with x new k v y ip ie it er ec eb ei es F nr w = put-good b I p l x new k v y ip ie it none (rw ec) eb (rw (ec, er) so) w
         (put-pre (b .count) (atnOf b) (here b) (subst (λ (st : Standing). Pre (b .count) (atnOf b) (here b) st) none (I .pre)) (p .0) l new k v y er ec eb ei es F (some-none (b .count) drivesNrfd (b .parties) refl (I .pre .tail) nr))
       where
@@ -107,7 +107,7 @@ module _ (b : Bus) (I : Inv b) (p : Place) (l : p .0 < b .count) (so : isSource 
         put-with _ (put Status v e p (here b (p .0)) .party) Status v false refl refl refl refl refl refl refl refl
         (record { command = sym (atn-off (a .0)); leads = λ h. no (cc); plain = λ h. no (cc); status = sym (a .1) }) nr (omega arith)
 
-    noacc-with : (new : Party) (v : ℕ) (y : Bool) (d : ℕ) → Plain (here b (p .0)) new → heldBytes (here b (p .0)) ≡ d + heldBytes new → Good b (call-of.Step p) (touch b (p .0) (does (say ev.Noacc v y d) new (b .standing)))
+    noacc-with : (new : Party) (v : ℕ) (y : Bool) (d : ℕ) → Plain (here b (p .0)) new → heldBytes (here b (p .0)) ≡ d + heldBytes new → Good b (call-of.Step p) (touch (atnOf b) b (p .0) (does (say ev.Noacc v y d) new (b .standing)))
     noacc-with new v y d H w = plain-good b (call-of.Step p) I (p .0) l (say ev.Noacc v y d) new H (step-caller b I p l) refl refl refl (omega arith)
 
     plain-spent : (s : Slot) → Plain (here b (p .0)) (withSource Sgns (withHeld s (here b (p .0))))
@@ -135,12 +135,12 @@ module _ (b : Bus) (I : Inv b) (p : Place) (l : p .0 < b .count) (so : isSource 
 
     over-good : (q : Party) (k : Kind) (v : ℕ) (e : Bool) → b .standing ≡ Byte p k v e → q .role ≡ look (b .standing) (p .0) (here b (p .0)) → q .control ≡ here b (p .0) .control
         → q .acceptor ≡ here b (p .0) .acceptor → q .input ≡ here b (p .0) .input → q .held ≡ here b (p .0) .held → q .source ≡ Sgns
-        → Good b (call-of.Step p) (touch b (p .0) (does (say ev.Ended v e 0) q Nothing))
+        → Good b (call-of.Step p) (touch (atnOf b) b (p .0) (does (say ev.Ended v e 0) q Nothing))
     over-good q k v e es er ec eb ei eh eo = end-good b I p l q k v e es nd (rw ec) eb eh
         (end-pre (b .count) (atnOf b) (here b) (b .standing) (I .pre) (p .0) l mine q er ec eb ei eo (none-ready b I nd))
 
     -- data and status bytes
-    plain-end : (k : Kind) (v : ℕ) (e : Bool) → ofCommand k ≡ false → b .standing ≡ Byte p k v e → Good b (call-of.Step p) (touch b (p .0) (does (say ev.Ended v e 0) (withSource Sgns (here b (p .0))) Nothing))
+    plain-end : (k : Kind) (v : ℕ) (e : Bool) → ofCommand k ≡ false → b .standing ≡ Byte p k v e → Good b (call-of.Step p) (touch (atnOf b) b (p .0) (does (say ev.Ended v e 0) (withSource Sgns (here b (p .0))) Nothing))
     plain-end k v e n es = over-good (withSource Sgns (here b (p .0))) k v e es (sym (look-idle (b .standing) (rw es n) (p .0) (here b (p .0)))) refl refl refl refl refl
 
     command-end : (v : ℕ) (e : Bool) → b .standing ≡ Byte p Command v e → G (ended (Byte p Command v e) (here b (p .0)))
@@ -153,20 +153,20 @@ module _ (b : Bus) (I : Inv b) (p : Place) (l : p .0 < b .count) (so : isSource 
         own : look (b .standing) (p .0) (here b (p .0)) ≡ hear (meaning v) (here b (p .0) .role)
         own = look-on (b .standing) (p .0) (here b (p .0)) (rw (mine, es)) ∙ rw es refl
 
-        just : (z : Bool) → Good b (call-of.Step p) (touch b (p .0) (record { said = say ev.Ended v e 0; passes = z; party = heard; standing = Nothing }))
+        just : (z : Bool) → Good b (call-of.Step p) (touch (atnOf b) b (p .0) (record { said = say ev.Ended v e 0; passes = z; party = heard; standing = Nothing }))
         just z = over-good heard Command v e es (sym own) refl refl refl refl refl
 
-        go : (z : Bool) → passesControl (meaning v) ≡ z → Good b (call-of.Step p) (turn b (p .0) (record { said = say ev.Ended v e 0; passes = z; party = heard; standing = Nothing }))
+        go : (z : Bool) → passesControl (meaning v) ≡ z → Good b (call-of.Step p) (turn (atnOf b) b (p .0) (record { said = say ev.Ended v e 0; passes = z; party = heard; standing = Nothing }))
         go false z = just false
         go true z = found (otherTalker (b .count) (p .0) (b .parties)) refl
           where
-            found : (x : Found) → otherTalker (b .count) (p .0) (b .parties) ≡ x → Good b (call-of.Step p) (handOn b (p .0) (record { said = say ev.Ended v e 0; passes = true; party = heard; standing = Nothing }) x)
+            found : (x : Found) → otherTalker (b .count) (p .0) (b .parties) ≡ x → Good b (call-of.Step p) (handOn (atnOf b) b (p .0) (record { said = say ev.Ended v e 0; passes = true; party = heard; standing = Nothing }) x)
             found Nowhere h = just true
             found (At j) h = pass-to b I p l v e es nd z true j h
 
     ended-good : (x : Standing) → b .standing ≡ x → G (ended x (here b (p .0)))
     unfolding G
-    ended-good Nothing es = subst (λ (x : Standing). Good b (call-of.Step p) (touch b (p .0) (stay x (here b (p .0))))) es (stay-good b I p l)
+    ended-good Nothing es = subst (λ (x : Standing). Good b (call-of.Step p) (touch (atnOf b) b (p .0) (stay x (here b (p .0))))) es (stay-good b I p l)
     ended-good (Byte s Command v e) es = command-end v e (its-sender s Command v e es)
     ended-good (Byte s Data v e) es = plain-end Data v e refl (its-sender s Data v e es)
     ended-good (Byte s Status v e) es = plain-end Status v e refl (its-sender s Status v e es)
@@ -178,6 +178,6 @@ module _ (b : Bus) (I : Inv b) (p : Place) (l : p .0 < b .count) (so : isSource 
   by-state Strs ex = cond-elim G (lines b .ndac) (λ _. stays) (λ nd. ended-good ex nd (b .standing) refl)
 
   pub source-good : (x : Source) → here b (p .0) .source ≡ x
-      → Good b (call-of.Step p) (turn b (p .0) (sourceStep x (offer (isPolled (atnOf b) (here b (p .0))) (here b (p .0))) (kindOf (isActive (here b (p .0))) (isPolled (atnOf b) (here b (p .0)))) (lines b) (b .standing) p (here b (p .0))))
+      → Good b (call-of.Step p) (turn (atnOf b) b (p .0) (sourceStep x (offer (isPolled (atnOf b) (here b (p .0))) (here b (p .0))) (kindOf (isActive (here b (p .0))) (isPolled (atnOf b) (here b (p .0)))) (lines b) (b .standing) p (here b (p .0))))
   unfolding G kind
   source-good x ex = by-state x ex

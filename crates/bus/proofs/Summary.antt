@@ -1,6 +1,6 @@
 -- The summary of one call: what the ledger reads of it. The lemmas below make it for each way in which a call ends.
 -- Assumes nothing.
-use mathlib.Core.Path.{_≡_, refl, sym, ap, _∙_, subst, subst₂}
+use mathlib.Core.Path.{_≡_, refl, sym, ap, _∙_, subst}
 use mathlib.Core.Bool.{Bool, true, false, not}
 use mathlib.Core.List.{List}
 use mathlib.Core.Logic.{_⊎_, inl, inr}
@@ -124,9 +124,9 @@ module _ (b : Bus) (I : Inv b) (i : ℕ) (l : i < b .count) (q : Party) where
   pub changed-held : (t : Bool) → total (b .count) heldBytes (each (b .count) (settled t) (set (b .parties) i q)) + heldBytes (here b i) ≡ held b + heldBytes q
   changed-held t = rw (total-each (b .count) heldBytes (settled t) (set (b .parties) i q) (λ p. refl)) set-held
 
-  pub touch-inv : (s : Said) (st : Standing) → isActive q ≡ isActive (here b i) → Pre (b .count) (atnOf b) (upd (here b) i q) st → Inv (touch b i (does s q st) .bus)
-  touch-inv s st e P = settle-inv b s (set (b .parties) i q) st (length-set (b .parties) i q ∙ I .size) (I .small)
-      (subst₂ (λ (x : Bool) (w : ℕ → Party). Pre (b .count) x w st) (sym (some-set (b .count) isActive (b .parties) i q e)) (sym (at-set (b .parties) i q inside)) P)
+  pub touch-inv : (s : Said) (st : Standing) → isActive q ≡ isActive (here b i) → Pre (b .count) (atnOf b) (upd (here b) i q) st → Inv (touch (atnOf b) b i (does s q st) .bus)
+  touch-inv s st e P = settle-inv b (atnOf b) s (set (b .parties) i q) st (length-set (b .parties) i q ∙ I .size) (I .small) (some-set (b .count) isActive (b .parties) i q e)
+      (subst (λ (w : ℕ → Party). Pre (b .count) (atnOf b) w st) (sym (at-set (b .parties) i q inside)) P)
 
   same-here : upd (here b) i q i ≡ q
   same-here = rw (eq-eqb i i refl)
@@ -148,7 +148,7 @@ deserted-stands t ps (Byte s k v x) e = refl
 
 pub kept-good : (b : Bus) (c : Call) → Inv b → (i : ℕ) → i < b .count → (s : Said) (q : Party) → Kept (atnOf b) (b .standing) (here b i) q
     → Addressed (λ j. look (b .standing) j (upd (here b) i q j))
-    → Word b c i s q → Good b c (touch b i (does s q (b .standing)))
+    → Word b c i s q → Good b c (touch (atnOf b) b i (does s q (b .standing)))
 kept-good b c I i l s q K o W = record {
   inv = touch-inv b I i l q s (b .standing) (K .act) (keep-pre (b .count) (atnOf b) (here b) (b .standing) (I .pre) i l q K o);
   shape = shape (deserted t qs (b .standing)) refl;
@@ -165,10 +165,10 @@ kept-good b c I i l s q K o W = record {
     qs = set (b .parties) i q
 
     t : Bool
-    t = some (b .count) isActive qs
+    t = atnOf b
 
     a : Answer
-    a = touch b i (does s q (b .standing))
+    a = touch (atnOf b) b i (does s q (b .standing))
 
     acc : (j : ℕ) → here (a .bus) j .acceptor ≡ upd (here b) i q j .acceptor
     acc = changed-acc b I i l q t
@@ -214,7 +214,7 @@ pub put-good : (b : Bus) → Inv b → (p : Place) → p .0 < b .count → (x : 
     → isActive q ≡ isActive (here b (p .0)) → q .acceptor ≡ here b (p .0) .acceptor → isSource (atnOf b) q ≡ true
     → heldBytes (here b (p .0)) ≡ one (isHostPut x) + heldBytes q
     → Pre (b .count) (atnOf b) (upd (here b) (p .0) q) (Byte p k v e)
-    → Good b (call-of.Step p) (touch b (p .0) (does (say x v e 0) q (Byte p k v e)))
+    → Good b (call-of.Step p) (touch (atnOf b) b (p .0) (does (say x v e 0) q (Byte p k v e)))
 put-good b I p l x q k v e ip ie it st ac eq so w P = record {
   inv = touch-inv b I (p .0) l q (say x v e 0) (Byte p k v e) ac P;
   shape = subst (λ (y : Bool). Shape (b .standing) (call-of.Step p) (settleAs t (not y) b (say x v e 0) qs (Byte p k v e))) (sym ok) (puts ip ie refl st p k refl refl);
@@ -231,10 +231,10 @@ put-good b I p l x q k v e ip ie it st ac eq so w P = record {
     qs = set (b .parties) (p .0) q
 
     t : Bool
-    t = some (b .count) isActive qs
+    t = atnOf b
 
     ok : isSource t (at qs (p .0)) ≡ true
-    ok = rw (some-set (b .count) isActive (b .parties) (p .0) q ac) (ap (λ (w : ℕ → Party). isSource (atnOf b) (w (p .0))) (at-set (b .parties) (p .0) q (inside b I (p .0) l q)) ∙ ap (isSource (atnOf b)) (same-here b I (p .0) l q) ∙ so)
+    ok = (ap (λ (w : ℕ → Party). isSource (atnOf b) (w (p .0))) (at-set (b .parties) (p .0) q (inside b I (p .0) l q)) ∙ ap (isSource (atnOf b)) (same-here b I (p .0) l q) ∙ so)
 
     acc : (j : ℕ) → at (each (b .count) (settled t) qs) j .acceptor ≡ here b j .acceptor
     acc = same-acc b I (p .0) l q eq t
@@ -251,7 +251,7 @@ pub end-good : (b : Bus) → Inv b → (p : Place) → p .0 < b .count → (q : 
     → b .standing ≡ Byte p k v e → some (b .count) drivesNdac (b .parties) ≡ false
     → isActive q ≡ isActive (here b (p .0)) → q .acceptor ≡ here b (p .0) .acceptor → q .held ≡ here b (p .0) .held
     → Pre (b .count) (atnOf b) (upd (here b) (p .0) q) Nothing
-    → Good b (call-of.Step p) (touch b (p .0) (does (say ev.Ended v e 0) q Nothing))
+    → Good b (call-of.Step p) (touch (atnOf b) b (p .0) (does (say ev.Ended v e 0) q Nothing))
 end-good b I p l q k v e st nd ac eq eh P = record {
   inv = touch-inv b I (p .0) l q (say ev.Ended v e 0) Nothing ac P;
   shape = ends refl refl refl p k refl st refl;
@@ -265,7 +265,7 @@ end-good b I p l q k v e st nd ac eq eh P = record {
 }
   where
     t : Bool
-    t = some (b .count) isActive (set (b .parties) (p .0) q)
+    t = atnOf b
 
     acc : (j : ℕ) → at (each (b .count) (settled t) (set (b .parties) (p .0) q)) j .acceptor ≡ here b j .acceptor
     acc = same-acc b I (p .0) l q eq t

@@ -11,7 +11,7 @@ use Rattle.parties.specs.Places.{each, total}
 use Rattle.parties.specs.Lines.{linesByte}
 use Rattle.bus.specs.Types.{Party, Acceptor, Aids, Anrs, Awns, Control, Active, Slot, Empty, Full, Lines, Standing, Bus, Answer, Effect}
 use Rattle.bus.specs.Types.ev
-use Rattle.bus.specs.Record.{here, lines}
+use Rattle.bus.specs.Record.{here}
 use Rattle.bus.specs.Settling.{say, settle, attend, touch, alarm}
 use Rattle.bus.specs.Step.{does, stay}
 
@@ -59,11 +59,11 @@ drop st p = quiet (heldBytes p) st (withHeld Empty p)
 abbrev pub resetAcceptor : Lines → Acceptor
 resetAcceptor l = cond (l .atn) (joining (l .dav)) Aids
 
-abbrev pub reset : Bus → ℕ → Party → Answer
-reset b i p =
+abbrev pub reset : Lines → Bus → ℕ → Party → Answer
+reset l b i p =
     cond (isActive p)
     (alarm b i (quiet (heldBytes p) (b .standing) (wiped p)))
-    (touch b i (quiet (heldBytes p) (b .standing) (withAcceptor (resetAcceptor (lines b)) (wiped p))))
+    (touch (l .atn) b i (quiet (heldBytes p) (b .standing) (withAcceptor (resetAcceptor l) (wiped p))))
 
 -- "the system party active, its held byte dropped"
 abbrev pub clear : Bus → ℕ → Answer
@@ -73,5 +73,5 @@ clear b i = attend b
     (b .standing)
 
 -- "The event lines carries the lines answer with END 0".
-abbrev pub linesAnswer : Bus → Answer
-linesAnswer b = settle b (say ev.Lines (linesByte (lines b)) false 0) (b .parties) (b .standing)
+abbrev pub linesAnswer : Lines → Bus → Answer
+linesAnswer l b = settle (l .atn) b (say ev.Lines (linesByte l) false 0) (b .parties) (b .standing)

@@ -12,7 +12,7 @@
 -- Assumes nothing.
 use mathlib.Core.Bool.{cond}
 use mathlib.Core.List.{List, [], _∷_}
-use Rattle.bus.specs.Types.{Standby, Active, Bus, Answer, Call, Refusal}
+use Rattle.bus.specs.Types.{Standby, Active, Lines, Bus, Answer, Call, Refusal}
 use Rattle.bus.specs.Types.call-of
 use Rattle.bus.specs.Words.{isAccepted}
 use Rattle.bus.specs.Record.{here, lines, refuse}
@@ -21,27 +21,31 @@ use Rattle.bus.specs.Refusals.{isOn, refusal}
 use Rattle.bus.specs.Step.{step}
 use Rattle.bus.specs.Calls.{write, read, pollRegister, listenOnly, talkOnly, controlled, drop, reset, clear, linesAnswer}
 
--- What an accepted call does.
-abbrev pub accepted : Bus → Call → Answer
-accepted b (call-of.Step p) = step b (p .0)
-accepted b (call-of.Write p v e) = touch b (p .0) (write v (isOn e) (b .standing) (here b (p .0)))
-accepted b (call-of.Read p) = touch b (p .0) (read (here b (p .0) .input) (b .standing) (here b (p .0)))
-accepted b (call-of.PollRegister p v) = touch b (p .0) (pollRegister v (b .standing) (here b (p .0)))
-accepted b (call-of.ListenOnly p on) = touch b (p .0) (listenOnly (isOn on) (lines b) (b .standing) (here b (p .0)))
-accepted b (call-of.TalkOnly p on) = touch b (p .0) (talkOnly (isOn on) (b .standing) (here b (p .0)))
-accepted b (call-of.TakeControl p) = alarm b (p .0) (controlled Active (b .standing) (here b (p .0)))
-accepted b (call-of.GoToStandby p) = alarm b (p .0) (controlled Standby (b .standing) (here b (p .0)))
-accepted b (call-of.InterfaceClear p) = clear b (p .0)
-accepted b (call-of.Reset p) = reset b (p .0) (here b (p .0))
-accepted b (call-of.Drop p) = touch b (p .0) (drop (b .standing) (here b (p .0)))
-accepted b call-of.Lines = linesAnswer b
+-- What an accepted call does, with the lines as it finds them.
+abbrev pub accepted : Lines → Bus → Call → Answer
+accepted l b (call-of.Step p) = step l b (p .0)
+accepted l b (call-of.Write p v e) = touch (l .atn) b (p .0) (write v (isOn e) (b .standing) (here b (p .0)))
+accepted l b (call-of.Read p) = touch (l .atn) b (p .0) (read (here b (p .0) .input) (b .standing) (here b (p .0)))
+accepted l b (call-of.PollRegister p v) = touch (l .atn) b (p .0) (pollRegister v (b .standing) (here b (p .0)))
+accepted l b (call-of.ListenOnly p on) = touch (l .atn) b (p .0) (listenOnly (isOn on) l (b .standing) (here b (p .0)))
+accepted l b (call-of.TalkOnly p on) = touch (l .atn) b (p .0) (talkOnly (isOn on) (b .standing) (here b (p .0)))
+accepted l b (call-of.TakeControl p) = alarm b (p .0) (controlled Active (b .standing) (here b (p .0)))
+accepted l b (call-of.GoToStandby p) = alarm b (p .0) (controlled Standby (b .standing) (here b (p .0)))
+accepted l b (call-of.InterfaceClear p) = clear b (p .0)
+accepted l b (call-of.Reset p) = reset l b (p .0) (here b (p .0))
+accepted l b (call-of.Drop p) = touch (l .atn) b (p .0) (drop (b .standing) (here b (p .0)))
+accepted l b call-of.Lines = linesAnswer l b
 
 -- A refused call leaves the bus as it found it.
 abbrev pub judged : Refusal → Bus → Answer → Answer
 judged r b a = cond (isAccepted r) a (refuse r b)
 
+-- A call reads the lines once.
+abbrev pub callIn : Lines → Bus → Call → Answer
+callIn l b c = judged (refusal l b c) b (accepted l b c)
+
 abbrev pub call : Bus → Call → Answer
-call b c = judged (refusal b c) b (accepted b c)
+call b c = callIn (lines b) b c
 
 -- The bus after a list of calls.
 abbrev pub run : Bus → List Call → Bus

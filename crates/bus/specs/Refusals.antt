@@ -6,10 +6,10 @@ use lib.Dec.{ltb, eqb}
 use Rattle.party.specs.Parts.{isFull}
 use Rattle.party.specs.Driving.{isActive}
 use Rattle.parties.specs.Places.{otherTalker, isFound}
-use Rattle.bus.specs.Types.{Place, Control, Idle, Standby, Active, Bus, Call, Refusal}
+use Rattle.bus.specs.Types.{Place, Control, Idle, Standby, Active, Lines, Bus, Call, Refusal}
 use Rattle.bus.specs.Types.ruling
 use Rattle.bus.specs.Types.call-of
-use Rattle.bus.specs.Record.{here, lines, sendsCommand}
+use Rattle.bus.specs.Record.{here, sendsCommand}
 
 -- "NOPARTY: no such party"
 abbrev pub ofParty : Bus → Place → Refusal → Refusal
@@ -41,16 +41,16 @@ standbyRefusal active sends = cond active (cond sends ruling.Standing ruling.Acc
 
 -- The refusal of each call, or Accepted. "FULL: write with a byte held"; "EMPTY: read with no data-in"; "ROLE: take control not in standby; ..;
 -- clear not by system party"; "STANDING: .. reset by the sender of a standing command".
-abbrev pub refusal : Bus → Call → Refusal
-refusal b (call-of.Step p) = ofParty b p ruling.Accepted
-refusal b (call-of.Write p v e) = ofParty b p (ofSwitch e (cond (isFull (here b (p .0) .held)) ruling.Full ruling.Accepted))
-refusal b (call-of.Read p) = ofParty b p (cond (isFull (here b (p .0) .input)) ruling.Accepted ruling.Empty)
-refusal b (call-of.PollRegister p v) = ofParty b p ruling.Accepted
-refusal b (call-of.ListenOnly p on) = ofParty b p (ofSwitch on (listenRefusal (isOn on) (here b (p .0) .role .talk)))
-refusal b (call-of.TalkOnly p on) = ofParty b p (ofSwitch on (talkRefusal (isOn on) (here b (p .0) .role .listen) (lines b .atn) (isFound (otherTalker (b .count) (p .0) (b .parties)))))
-refusal b (call-of.TakeControl p) = ofParty b p (cond (inStandby (here b (p .0) .control)) ruling.Accepted ruling.Role)
-refusal b (call-of.GoToStandby p) = ofParty b p (standbyRefusal (isActive (here b (p .0))) (sendsCommand (p .0) (b .standing)))
-refusal b (call-of.InterfaceClear p) = ofParty b p (cond (eqb (p .0) (b .system .0)) ruling.Accepted ruling.Role)
-refusal b (call-of.Reset p) = ofParty b p (cond (sendsCommand (p .0) (b .standing)) ruling.Standing ruling.Accepted)
-refusal b (call-of.Drop p) = ofParty b p ruling.Accepted
-refusal b call-of.Lines = ruling.Accepted
+abbrev pub refusal : Lines → Bus → Call → Refusal
+refusal l b (call-of.Step p) = ofParty b p ruling.Accepted
+refusal l b (call-of.Write p v e) = ofParty b p (ofSwitch e (cond (isFull (here b (p .0) .held)) ruling.Full ruling.Accepted))
+refusal l b (call-of.Read p) = ofParty b p (cond (isFull (here b (p .0) .input)) ruling.Accepted ruling.Empty)
+refusal l b (call-of.PollRegister p v) = ofParty b p ruling.Accepted
+refusal l b (call-of.ListenOnly p on) = ofParty b p (ofSwitch on (listenRefusal (isOn on) (here b (p .0) .role .talk)))
+refusal l b (call-of.TalkOnly p on) = ofParty b p (ofSwitch on (talkRefusal (isOn on) (here b (p .0) .role .listen) (l .atn) (isFound (otherTalker (b .count) (p .0) (b .parties)))))
+refusal l b (call-of.TakeControl p) = ofParty b p (cond (inStandby (here b (p .0) .control)) ruling.Accepted ruling.Role)
+refusal l b (call-of.GoToStandby p) = ofParty b p (standbyRefusal (isActive (here b (p .0))) (sendsCommand (p .0) (b .standing)))
+refusal l b (call-of.InterfaceClear p) = ofParty b p (cond (eqb (p .0) (b .system .0)) ruling.Accepted ruling.Role)
+refusal l b (call-of.Reset p) = ofParty b p (cond (sendsCommand (p .0) (b .standing)) ruling.Standing ruling.Accepted)
+refusal l b (call-of.Drop p) = ofParty b p ruling.Accepted
+refusal l b call-of.Lines = ruling.Accepted

@@ -33,12 +33,9 @@ abbrev pub deserted : Bool → List Party → Standing → Bool
 deserted atn ps Nothing = false
 deserted atn ps (Byte s k v e) = not (isSource atn (at ps (s .0)))
 
--- Settling alone, with ATN as the call leaves it.
-abbrev pub settleIn : Bool → Bus → Said → List Party → Standing → Answer
-settleIn atn b s ps st = settleAs atn (deserted atn ps st) b s ps st
-
-abbrev pub settle : Bus → Said → List Party → Standing → Answer
-settle b s ps st = settleIn (some (b .count) isActive ps) b s ps st
+-- Settling alone, with ATN as it is: no call changes who is active unless attention follows.
+abbrev pub settle : Bool → Bus → Said → List Party → Standing → Answer
+settle atn b s ps st = settleAs atn (deserted atn ps st) b s ps st
 
 -- Attention, then settling: "a standing byte is broken off and never put again; all sources to SIDS; ..".
 abbrev pub attendAs : Bool → Bus → Said → List Party → Standing → Answer
@@ -48,11 +45,8 @@ abbrev pub attend : Bus → Said → List Party → Standing → Answer
 attend b s ps st = attendAs (some (b .count) isActive ps) b s ps st
 
 -- A call that changes party i: without attention, and with it ("a call that changes which party is active (or none)").
-abbrev pub touchIn : Bool → Bus → ℕ → Effect → Answer
-touchIn atn b i e = settleIn atn b (e .said) (set (b .parties) i (e .party)) (e .standing)
-
-abbrev pub touch : Bus → ℕ → Effect → Answer
-touch b i e = touchIn (some (b .count) isActive (set (b .parties) i (e .party))) b i e
+abbrev pub touch : Bool → Bus → ℕ → Effect → Answer
+touch atn b i e = settle atn b (e .said) (set (b .parties) i (e .party)) (e .standing)
 
 abbrev pub alarm : Bus → ℕ → Effect → Answer
 alarm b i e = attend b (e .said) (set (b .parties) i (e .party)) (e .standing)

@@ -12,7 +12,7 @@ use Rattle.party.specs.Settling.{changeControl}
 use Rattle.parties.specs.Places.{place, otherTalker}
 use Rattle.bus.specs.Types.{Place, Party, Source, Sids, Sgns, Sdys, Strs, Acceptor, Aids, Anrs, Acrs, Acds, Awns, Idle, Active, Slot, Empty, Full, Kind, Lines, Found, Nowhere, At, Standing, Nothing, Byte, Bus, Answer, Said, Effect}
 use Rattle.bus.specs.Types.ev
-use Rattle.bus.specs.Record.{here, lines, ofCommand}
+use Rattle.bus.specs.Record.{here, ofCommand}
 use Rattle.bus.specs.Settling.{say, attend, touch}
 
 -- An effect on party p by which no control goes on.
@@ -110,12 +110,13 @@ pass b i e j = attend b
     (set (set (b .parties) i (changeControl Idle (e .party))) j (changeControl Active (here b j)))
     (e .standing)
 
-abbrev pub handOn : Bus → ℕ → Effect → Found → Answer
-handOn b i e Nowhere = touch b i e
-handOn b i e (At j) = pass b i e (j .0)
+abbrev pub handOn : Bool → Bus → ℕ → Effect → Found → Answer
+handOn atn b i e Nowhere = touch atn b i e
+handOn atn b i e (At j) = pass b i e (j .0)
 
-abbrev pub turn : Bus → ℕ → Effect → Answer
-turn b i e = cond (e .passes) (handOn b i e (otherTalker (b .count) i (b .parties))) (touch b i e)
+abbrev pub turn : Bool → Bus → ℕ → Effect → Answer
+turn atn b i e = cond (e .passes) (handOn atn b i e (otherTalker (b .count) i (b .parties))) (touch atn b i e)
 
-abbrev pub step : Bus → ℕ → Answer
-step b i = turn b i (effect (lines b) (b .standing) (place i) (here b i))
+-- With the lines as the call finds them.
+abbrev pub step : Lines → Bus → ℕ → Answer
+step l b i = turn (l .atn) b i (effect l (b .standing) (place i) (here b i))

@@ -6,16 +6,16 @@ use mathlib.Core.List.{List, [], _∷_, map}
 use Prim.Native.Nat.{ℕ, zero, suc, _+_, _≤_, _<_}
 use native.Mathlib.Omega.{arith}
 use native.Mathlib.Numerals.{add-one}
-use native.Mathlib.Nat.{not-suc-le-zero, le-of-suc-le-suc, add-zero, add-suc, suc-add, zero-add}
+use native.Mathlib.Nat.{not-suc-le-zero, le-of-suc-le-suc, add-zero, add-suc, suc-add}
 use lib.ListN.{length, set, length-map}
 use lib.Dec.{ltb}
 use borrow.Author.Tests.{ltb-false}
 use Rattle.party.specs.Driving.{isActive, drivesDav, drivesNrfd, drivesNdac, drivesSrq}
-use Rattle.party.proofs.Logic.{no, test}
-use Rattle.parties.specs.Types.{Place, Party, Lines, Found, Nowhere, At}
-use Rattle.parties.specs.Places.{place, at, some, each, total, firstFrom, within, seek, talks, firstTalker}
+use Rattle.party.proofs.Logic.{test}
+use Rattle.parties.specs.Types.{Party, Found, Nowhere, At}
+use Rattle.parties.specs.Places.{place, at, some, each, total, firstFrom, within, seek}
 use Rattle.parties.specs.Lines.{linesOf, driven}
-use Rattle.parties.proofs.Places.{each-past, length-each}
+use Rattle.parties.proofs.Places.{each-past}
 
 -- the length of an array whose elements are structs, as a need has it
 pub length-of-map : (X Y : Type 0) (f : X → Y) (l : List X) (n : ℕ) → length (map f l) ≡ n → length l ≡ n

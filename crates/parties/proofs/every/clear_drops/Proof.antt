@@ -1,6 +1,6 @@
 -- After k turns the sum is that of the first k parties, and at most k.
 use Prim.Native.Nat.{_+_, _≤_, _-_}
-use mathlib.Core.Path.{_≡_, refl, ap, _∙_}
+use mathlib.Core.Path.{_≡_, ap}
 use native.Mathlib.Omega.{arith}
 use lib.ListN.{length}
 use Rattle.party.specs.Clearing.{clearDrops}

@@ -1,7 +1,6 @@
 -- Within fifteen.
 use native.Mathlib.Omega.{arith}
 use borrow.Author.Tests.{lt-ltb, le-ltb}
-use borrow.Author.Needs.{needs}
 use Rattle.parties.proofs.every.within_places.Statement.{statement}
 use Rattle.parties.proofs.every.within_places.Tie as tie
 
