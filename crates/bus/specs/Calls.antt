@@ -59,11 +59,14 @@ drop st p = quiet (heldBytes p) st (withHeld Empty p)
 abbrev pub resetAcceptor : Lines → Acceptor
 resetAcceptor l = cond (l .atn) (joining (l .dav)) Aids
 
-abbrev pub reset : Lines → Bus → ℕ → Party → Answer
-reset l b i p =
-    cond (isActive p)
+abbrev pub resetAs : Bool → Lines → Bus → ℕ → Party → Answer
+resetAs active l b i p =
+    cond active
     (alarm b i (quiet (heldBytes p) (b .standing) (wiped p)))
     (touch (l .atn) b i (quiet (heldBytes p) (b .standing) (withAcceptor (resetAcceptor l) (wiped p))))
+
+abbrev pub reset : Lines → Bus → ℕ → Party → Answer
+reset l b i p = resetAs (isActive p) l b i p
 
 -- "the system party active, its held byte dropped"
 abbrev pub clear : Bus → ℕ → Answer

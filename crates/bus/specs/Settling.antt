@@ -16,17 +16,21 @@ use Rattle.bus.specs.Record.{stands}
 abbrev pub say : Event → ℕ → Bool → ℕ → Said
 say x v e d = record { event = x; byte = v; end = e; dropped = d }
 
--- "After each accepted call every party settles." `off` says that what stands is broken off.
-abbrev pub settleAs : Bool → Bool → Bus → Said → List Party → Standing → Answer
-settleAs atn off b s ps st = record {
+-- The answer of an accepted call that leaves the parties ps. `off` says that what stands is broken off.
+abbrev pub answered : Bool → Bus → Said → List Party → Standing → Answer
+answered off b s ps st = record {
   refusal = ruling.Accepted;
   event = s .event;
   byte = s .byte;
   end = s .end;
   dropped = s .dropped;
   broken = one off;
-  bus = record { parties = each (b .count) (settled atn) ps; count = b .count; system = b .system; standing = cond off Nothing st };
+  bus = record { parties = ps; count = b .count; system = b .system; standing = cond off Nothing st };
 }
+
+-- "After each accepted call every party settles."
+abbrev pub settleAs : Bool → Bool → Bus → Said → List Party → Standing → Answer
+settleAs atn off b s ps st = answered off b s (each (b .count) (settled atn) ps) st
 
 -- "A non-source goes to SIDS, its own standing byte broken off": its sender is no source any more.
 abbrev pub deserted : Bool → List Party → Standing → Bool

@@ -97,11 +97,14 @@ acceptorStep Acds l st p = move st (withAcceptor Awns p)
 acceptorStep Awns l st p = cond (l .dav) (stay st p) (move st (withAcceptor Anrs p))
 
 -- "A source takes the source step, any other party the acceptor step."
+abbrev pub sourceEffect : Lines → Standing → Place → Party → Effect
+sourceEffect l st i p = sourceStep (p .source) (offer (isPolled (l .atn) p) p) (kindOf (isActive p) (isPolled (l .atn) p)) l st i p
+
+abbrev pub effectAs : Bool → Lines → Standing → Place → Party → Effect
+effectAs source l st i p = cond source (sourceEffect l st i p) (acceptorStep (p .acceptor) l st p)
+
 abbrev pub effect : Lines → Standing → Place → Party → Effect
-effect l st i p =
-    cond (isSource (l .atn) p)
-    (sourceStep (p .source) (offer (isPolled (l .atn) p) p) (kindOf (isActive p) (isPolled (l .atn) p)) l st i p)
-    (acceptorStep (p .acceptor) l st p)
+effect l st i p = effectAs (isSource (l .atn) p) l st i p
 
 -- "when it ends, control goes to the talk-on party other than the sender, if there is one: that party is active, the sender idle, event passed"
 abbrev pub pass : Bus → ℕ → Effect → ℕ → Answer

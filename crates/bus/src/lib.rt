@@ -6,7 +6,10 @@ use party::Place;
 
 pub mod acceptor_step;
 pub mod effects;
+pub mod host_calls;
+pub mod settling;
 pub mod source_step;
+pub mod step;
 
 // Document 01's standing byte: its sender, kind, value and END. It stands exactly while its sender is in STRS.
 pub enum Standing {

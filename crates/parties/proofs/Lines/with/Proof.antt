@@ -34,16 +34,18 @@ or-requires-5 c κs = search needs
 
 returns : tie.Need-returns
 returns c =
-    simp (c .or5 .ensures,
-    c .before .drives-srq .ensures,
-    c .before .before .or4 .ensures,
-    c .before .before .before .drives-ndac .ensures,
-    c .before .before .before .before .or3 .ensures,
-    c .before .before .before .before .before .drives-nrfd .ensures,
-    c .before .before .before .before .before .before .or2 .ensures,
-    c .before .before .before .before .before .before .before .drives-dav .ensures,
-    c .before .before .before .before .before .before .before .before .or .ensures,
-    c .before .before .before .before .before .before .before .before .before .is-active .ensures)
+    simp (
+      c .or5 .ensures,
+      c .before .drives-srq .ensures,
+      c .before .before .or4 .ensures,
+      c .before .before .before .drives-ndac .ensures,
+      c .before .before .before .before .or3 .ensures,
+      c .before .before .before .before .before .drives-nrfd .ensures,
+      c .before .before .before .before .before .before .or2 .ensures,
+      c .before .before .before .before .before .before .before .drives-dav .ensures,
+      c .before .before .before .before .before .before .before .before .or .ensures,
+      c .before .before .before .before .before .before .before .before .before .is-active .ensures,
+    )
 
 pub with-spec : {M : Type 1} → statement M
 with-spec =

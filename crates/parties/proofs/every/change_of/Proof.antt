@@ -25,23 +25,29 @@ cleared-requires c κs = search needs
 
 returns : tie.Need-returns
 returns c =
-    simp (c .settled .ensures,
-    c .before .known-told .given .1,
-    c .before .before .c .given .1,
-    c .before .before .before .match .keys1)
+    simp (
+      c .settled .ensures,
+      c .before .known-told .given .1,
+      c .before .before .c .given .1,
+      c .before .before .before .match .keys1,
+    )
 
 returns-2 : tie.Need-returns-2
 returns-2 c =
-    simp (c .settled2 .ensures,
-    c .before .attended .ensures,
-    c .before .before .known-told2 .given .1,
-    c .before .before .before .c2 .given .1,
-    c .before .before .before .before .match .keys2)
+    simp (
+      c .settled2 .ensures,
+      c .before .attended .ensures,
+      c .before .before .known-told2 .given .1,
+      c .before .before .before .c2 .given .1,
+      c .before .before .before .before .match .keys2,
+    )
 
 returns-3 : tie.Need-returns-3
 returns-3 c =
-    simp (c .cleared .ensures,
-    c .before .enum-told .given .1)
+    simp (
+      c .cleared .ensures,
+      c .before .enum-told .given .1,
+    )
 
 pub change-of-spec : {M : Type 1} → statement M
 change-of-spec =

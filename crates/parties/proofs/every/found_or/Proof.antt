@@ -10,17 +10,21 @@ enum-known-f c = search needs
 
 returns : tie.Need-returns
 returns c =
-    simp (c .if1 .taken,
-    c .before .enum-told .given .1)
+    simp (
+      c .if1 .taken,
+      c .before .enum-told .given .1,
+    )
 
 returns-2 : tie.Need-returns-2
 returns-2 c = search needs
 
 returns-3 : tie.Need-returns-3
 returns-3 c =
-    simp (c .known-told .given .1,
-    c .before .f .given .1,
-    c .before .before .match .keys2)
+    simp (
+      c .known-told .given .1,
+      c .before .f .given .1,
+      c .before .before .match .keys2,
+    )
 
 pub found-or-spec : {M : Type 1} → statement M
 found-or-spec = tie.close (tie.spec enum-told enum-known-f returns returns-2 returns-3)

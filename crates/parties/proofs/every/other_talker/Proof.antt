@@ -10,8 +10,10 @@ first-talker-requires c κs = search needs
 
 returns : tie.Need-returns
 returns c =
-    simp (c .first-talker .ensures,
-    c .before .with-party .ensures)
+    simp (
+      c .first-talker .ensures,
+      c .before .with-party .ensures,
+    )
 
 pub other-talker-spec : {M : Type 1} → statement M
 other-talker-spec = tie.close (tie.spec with-party-requires first-talker-requires returns)

@@ -1,0 +1,21 @@
+use borrow.Author.Needs.{needs}
+use Rattle.bus.proofs.host_calls.talking.Statement.{statement}
+use Rattle.bus.proofs.host_calls.talking.Tie as tie
+
+with-flags-requires : tie.Need-with-flags-requires
+with-flags-requires c κs = search needs
+
+with-role-requires : tie.Need-with-role-requires
+with-role-requires c κs = search needs
+
+quietly-requires : tie.Need-quietly-requires
+quietly-requires c κs = search needs
+
+returns : tie.Need-returns
+returns c =
+    simp (c .quietly .ensures,
+    c .before .with-role .ensures,
+    c .before .before .with-flags .ensures)
+
+pub talking-spec : {M : Type 1} → statement M
+talking-spec = tie.close (tie.spec with-flags-requires with-role-requires quietly-requires returns)
