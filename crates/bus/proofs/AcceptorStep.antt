@@ -22,7 +22,7 @@ use Rattle.bus.specs.Delivery.{isPut, isEnd, isTake, isHostPut}
 use Rattle.bus.proofs.Invariant.{sentBy, isCommand, codeOf, waits, look, Inv, atnOf, quiet}
 use Rattle.bus.proofs.Change.{weak-look}
 use Rattle.bus.proofs.Putting.{off-command, look-on, look-off}
-use Rattle.bus.proofs.Rulings.{stands-dav}
+use Rattle.bus.proofs.Accepting.{stands-dav}
 use Rattle.bus.proofs.Summary.{Good, kept-good}
 use Rattle.bus.proofs.OneParty.{step-caller, stay-good, seated-good}
 

@@ -33,7 +33,7 @@ use Rattle.bus.proofs.Invariant.{busy, active-busy, sentBy, isCommand, 
 use Rattle.bus.proofs.Change.{upd-all, Unique, upd-unique, same-apart, upd-apart, weak-look}
 use Rattle.bus.proofs.Putting.{role-heard}
 use Rattle.bus.proofs.Attention.{Raw}
-use Rattle.bus.proofs.Rulings.{if-so, if-not, known, stands-dav, joining-away, joining-dav}
+use Rattle.bus.proofs.Accepting.{if-so, if-not, known, stands-dav, joining-away, joining-dav}
 use Rattle.bus.proofs.Summary.{Shape, keeps, breaks, stayed, Good, inside, set-held, seen-settled, deserted-stands, kept-good, alarm-good}
 
 -- One party changes flags or control while no command stands: the parties are fit for attention.

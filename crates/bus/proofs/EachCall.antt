@@ -20,7 +20,7 @@ use Rattle.bus.specs.Refusals.{refusal}
 use Rattle.bus.specs.Machine as m
 use Rattle.bus.specs.Delivery.{Moment, history, isPut, isEnd, isHostPut, wrote, tally, held}
 use Rattle.bus.proofs.Invariant.{Inv, atnOf}
-use Rattle.bus.proofs.Rulings.{known}
+use Rattle.bus.proofs.Accepting.{known}
 use Rattle.bus.proofs.Summary.{Good, Shape, keeps, puts, ends, breaks}
 use Rattle.bus.proofs.OneParty.{ruled}
 use Rattle.bus.proofs.HostCalls.{write-good, read-good, poll-good, drop-good}

@@ -18,7 +18,7 @@ use Rattle.bus.specs.Calls.{read, drop}
 use Rattle.bus.specs.Refusals.{ofSwitch, isOn, refusal}
 use Rattle.bus.specs.Machine.{accepted}
 use Rattle.bus.proofs.Invariant.{Inv, atnOf}
-use Rattle.bus.proofs.Rulings.{if-not, known, switched}
+use Rattle.bus.proofs.Accepting.{if-not, known, switched}
 use Rattle.bus.proofs.Summary.{Good}
 use Rattle.bus.proofs.OneParty.{Plain, plain-good}
 

@@ -33,7 +33,7 @@ pub mod Putting
 pub mod Attention
 pub mod Summary
 pub mod OneParty
-pub mod Rulings
+pub mod Accepting
 pub mod HostCalls
 pub mod Switches
 pub mod ControlCalls

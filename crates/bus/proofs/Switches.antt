@@ -32,7 +32,7 @@ use Rattle.bus.proofs.Invariant.{isCommand, codeOf, waits, look, look-i
 use Rattle.bus.proofs.Invariant as invariant
 use Rattle.bus.proofs.Change.{weak-look, upd-unique}
 use Rattle.bus.proofs.Putting.{role-heard, off-command}
-use Rattle.bus.proofs.Rulings.{known, switched, off-is-0, stands-dav, joining-away, joining-dav}
+use Rattle.bus.proofs.Accepting.{known, switched, off-is-0, stands-dav, joining-away, joining-dav}
 use Rattle.bus.proofs.Summary.{Good, Word, Left, kept-good}
 use Rattle.bus.proofs.OneParty.{seated-good}
 

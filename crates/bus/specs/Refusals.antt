@@ -39,18 +39,50 @@ talkRefusal on listen atn another = cond on (cond listen ruling.Role (cond atn r
 abbrev pub standbyRefusal : Bool → Bool → Refusal
 standbyRefusal active sends = cond active (cond sends ruling.Standing ruling.Accepted) ruling.Role
 
--- The refusal of each call, or Accepted. "FULL: write with a byte held"; "EMPTY: read with no data-in"; "ROLE: take control not in standby; ..;
--- clear not by system party"; "STANDING: .. reset by the sender of a standing command".
+-- A call that is refused only where there is no such party.
+abbrev pub partyRefusal : Bus → Place → Refusal
+partyRefusal b p = ofParty b p ruling.Accepted
+
+-- "FULL: write with a byte held"
+abbrev pub writeRefusal : Bus → Place → ℕ → Refusal
+writeRefusal b p e = ofParty b p (ofSwitch e (cond (isFull (here b (p .0) .held)) ruling.Full ruling.Accepted))
+
+-- "EMPTY: read with no data-in"
+abbrev pub readRefusal : Bus → Place → Refusal
+readRefusal b p = ofParty b p (cond (isFull (here b (p .0) .input)) ruling.Accepted ruling.Empty)
+
+abbrev pub listenOnlyRefusal : Bus → Place → ℕ → Refusal
+listenOnlyRefusal b p on = ofParty b p (ofSwitch on (listenRefusal (isOn on) (here b (p .0) .role .talk)))
+
+abbrev pub talkOnlyRefusal : Lines → Bus → Place → ℕ → Refusal
+talkOnlyRefusal l b p on = ofParty b p (ofSwitch on (talkRefusal (isOn on) (here b (p .0) .role .listen) (l .atn) (isFound (otherTalker (b .count) (p .0) (b .parties)))))
+
+-- "ROLE: take control not in standby"
+abbrev pub takeControlRefusal : Bus → Place → Refusal
+takeControlRefusal b p = ofParty b p (cond (inStandby (here b (p .0) .control)) ruling.Accepted ruling.Role)
+
+abbrev pub goToStandbyRefusal : Bus → Place → Refusal
+goToStandbyRefusal b p = ofParty b p (standbyRefusal (isActive (here b (p .0))) (sendsCommand (p .0) (b .standing)))
+
+-- "ROLE: .. clear not by system party"
+abbrev pub clearRefusal : Bus → Place → Refusal
+clearRefusal b p = ofParty b p (cond (eqb (p .0) (b .system .0)) ruling.Accepted ruling.Role)
+
+-- "STANDING: .. reset by the sender of a standing command"
+abbrev pub resetRefusal : Bus → Place → Refusal
+resetRefusal b p = ofParty b p (cond (sendsCommand (p .0) (b .standing)) ruling.Standing ruling.Accepted)
+
+-- The refusal of each call, or Accepted. "Order: .. 1, values, then 4 to 9."
 abbrev pub refusal : Lines → Bus → Call → Refusal
-refusal l b (call-of.Step p) = ofParty b p ruling.Accepted
-refusal l b (call-of.Write p v e) = ofParty b p (ofSwitch e (cond (isFull (here b (p .0) .held)) ruling.Full ruling.Accepted))
-refusal l b (call-of.Read p) = ofParty b p (cond (isFull (here b (p .0) .input)) ruling.Accepted ruling.Empty)
-refusal l b (call-of.PollRegister p v) = ofParty b p ruling.Accepted
-refusal l b (call-of.ListenOnly p on) = ofParty b p (ofSwitch on (listenRefusal (isOn on) (here b (p .0) .role .talk)))
-refusal l b (call-of.TalkOnly p on) = ofParty b p (ofSwitch on (talkRefusal (isOn on) (here b (p .0) .role .listen) (l .atn) (isFound (otherTalker (b .count) (p .0) (b .parties)))))
-refusal l b (call-of.TakeControl p) = ofParty b p (cond (inStandby (here b (p .0) .control)) ruling.Accepted ruling.Role)
-refusal l b (call-of.GoToStandby p) = ofParty b p (standbyRefusal (isActive (here b (p .0))) (sendsCommand (p .0) (b .standing)))
-refusal l b (call-of.InterfaceClear p) = ofParty b p (cond (eqb (p .0) (b .system .0)) ruling.Accepted ruling.Role)
-refusal l b (call-of.Reset p) = ofParty b p (cond (sendsCommand (p .0) (b .standing)) ruling.Standing ruling.Accepted)
-refusal l b (call-of.Drop p) = ofParty b p ruling.Accepted
+refusal l b (call-of.Step p) = partyRefusal b p
+refusal l b (call-of.Write p v e) = writeRefusal b p e
+refusal l b (call-of.Read p) = readRefusal b p
+refusal l b (call-of.PollRegister p v) = partyRefusal b p
+refusal l b (call-of.ListenOnly p on) = listenOnlyRefusal b p on
+refusal l b (call-of.TalkOnly p on) = talkOnlyRefusal l b p on
+refusal l b (call-of.TakeControl p) = takeControlRefusal b p
+refusal l b (call-of.GoToStandby p) = goToStandbyRefusal b p
+refusal l b (call-of.InterfaceClear p) = clearRefusal b p
+refusal l b (call-of.Reset p) = resetRefusal b p
+refusal l b (call-of.Drop p) = partyRefusal b p
 refusal l b call-of.Lines = ruling.Accepted

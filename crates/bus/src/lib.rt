@@ -7,6 +7,7 @@ use party::Place;
 pub mod acceptor_step;
 pub mod effects;
 pub mod host_calls;
+pub mod rulings;
 pub mod settling;
 pub mod source_step;
 pub mod step;

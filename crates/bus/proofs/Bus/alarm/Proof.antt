@@ -10,8 +10,10 @@ attend-requires c κs = search needs
 
 returns : tie.Need-returns
 returns c =
-    simp (c .attend .ensures,
-    c .before .with-party .ensures)
+    simp (
+      c .attend .ensures,
+      c .before .with-party .ensures,
+    )
 
 pub alarm-spec : {M : Type 1} → statement M
 alarm-spec = tie.close (tie.spec with-party-requires attend-requires returns)

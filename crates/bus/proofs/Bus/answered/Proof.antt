@@ -10,8 +10,10 @@ one-requires c κs = search needs
 
 returns : tie.Need-returns
 returns c =
-    simp (c .one .ensures .0,
-    c .before .unless .ensures)
+    simp (
+      c .one .ensures .0,
+      c .before .unless .ensures,
+    )
 
 pub answered-spec : {M : Type 1} → statement M
 answered-spec = tie.close (tie.spec unless-requires one-requires returns)

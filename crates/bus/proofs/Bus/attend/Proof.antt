@@ -17,11 +17,13 @@ answered-requires c κs = search needs
 
 returns : tie.Need-returns
 returns c =
-    simp (c .answered .ensures,
-    c .before .change-all .ensures,
-    c .before .before .stands .ensures,
-    c .before .before .before .lines-of .ensures,
-    each-each)
+    simp (
+      c .answered .ensures,
+      c .before .change-all .ensures,
+      c .before .before .stands .ensures,
+      c .before .before .before .lines-of .ensures,
+      each-each,
+    )
 
 pub attend-spec : {M : Type 1} → statement M
 attend-spec =

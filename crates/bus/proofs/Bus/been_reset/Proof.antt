@@ -10,8 +10,10 @@ reset-as-requires c κs = search needs
 
 returns : tie.Need-returns
 returns c =
-    simp (c .reset-as .ensures,
-    c .before .is-active .ensures)
+    simp (
+      c .reset-as .ensures,
+      c .before .is-active .ensures,
+    )
 
 pub been-reset-spec : {M : Type 1} → statement M
 been-reset-spec = tie.close (tie.spec is-active-requires reset-as-requires returns)

@@ -34,15 +34,17 @@ attend-requires c κs = search needs
 
 returns : tie.Need-returns
 returns c =
-    simp (c .attend .ensures,
-    c .before .with-party .ensures,
-    c .before .before .change-control .ensures,
-    c .before .before .before .change-all .ensures,
-    c .before .before .before .before .say .ensures,
-    c .before .before .before .before .before .held-bytes .ensures .0,
-    c .before .before .before .before .before .before .clear-drops .ensures .0,
-    c .before .before .before .before .before .before .before .cleared .ensures,
-    c .before .before .before .before .before .before .before .before .party-at .ensures)
+    simp (
+      c .attend .ensures,
+      c .before .with-party .ensures,
+      c .before .before .change-control .ensures,
+      c .before .before .before .change-all .ensures,
+      c .before .before .before .before .say .ensures,
+      c .before .before .before .before .before .held-bytes .ensures .0,
+      c .before .before .before .before .before .before .clear-drops .ensures .0,
+      c .before .before .before .before .before .before .before .cleared .ensures,
+      c .before .before .before .before .before .before .before .before .party-at .ensures,
+    )
 
 pub cleared-spec : {M : Type 1} → statement M
 cleared-spec =

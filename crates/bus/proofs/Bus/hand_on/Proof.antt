@@ -16,15 +16,19 @@ pass-requires c κs = search needs
 
 returns : tie.Need-returns
 returns c =
-    simp (c .touch .ensures,
-    c .before .enum-told .given .1)
+    simp (
+      c .touch .ensures,
+      c .before .enum-told .given .1,
+    )
 
 returns-2 : tie.Need-returns-2
 returns-2 c =
-    simp (c .pass .ensures,
-    c .before .known-told .given .1,
-    c .before .before .f .given .1,
-    c .before .before .before .match .keys2)
+    simp (
+      c .pass .ensures,
+      c .before .known-told .given .1,
+      c .before .before .f .given .1,
+      c .before .before .before .match .keys2,
+    )
 
 pub hand-on-spec : {M : Type 1} → statement M
 hand-on-spec =

@@ -10,8 +10,10 @@ lines-of-requires c κs = search needs
 
 returns : tie.Need-returns
 returns c =
-    simp (c .lines-of .ensures,
-    c .before .has-end .ensures)
+    simp (
+      c .lines-of .ensures,
+      c .before .has-end .ensures,
+    )
 
 pub line-states-spec : {M : Type 1} → statement M
 line-states-spec = tie.close (tie.spec has-end-requires lines-of-requires returns)

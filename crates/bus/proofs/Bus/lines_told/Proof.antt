@@ -13,9 +13,11 @@ settle-requires c κs = search needs
 
 returns : tie.Need-returns
 returns c =
-    simp (c .settle .ensures,
-    c .before .say .ensures,
-    c .before .before .byte .ensures)
+    simp (
+      c .settle .ensures,
+      c .before .say .ensures,
+      c .before .before .byte .ensures,
+    )
 
 pub lines-told-spec : {M : Type 1} → statement M
 lines-told-spec = tie.close (tie.spec byte-requires say-requires settle-requires returns)

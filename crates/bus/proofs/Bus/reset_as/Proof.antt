@@ -34,21 +34,25 @@ touch-requires c κs = search needs
 
 returns : tie.Need-returns
 returns c =
-    simp (c .alarm .ensures,
-    c .before .quietly .ensures,
-    c .before .before .wiped .ensures,
-    c .before .before .before .held-bytes .ensures .0,
-    c .before .before .before .before .if1 .taken)
+    simp (
+      c .alarm .ensures,
+      c .before .quietly .ensures,
+      c .before .before .wiped .ensures,
+      c .before .before .before .held-bytes .ensures .0,
+      c .before .before .before .before .if1 .taken,
+    )
 
 returns-2 : tie.Need-returns-2
 returns-2 c =
-    simp (c .touch .ensures,
-    c .before .quietly2 .ensures,
-    c .before .before .with-acceptor .ensures,
-    c .before .before .before .reset-acceptor .ensures,
-    c .before .before .before .before .wiped2 .ensures,
-    c .before .before .before .before .before .held-bytes2 .ensures .0,
-    c .before .before .before .before .before .before .if1 .left)
+    simp (
+      c .touch .ensures,
+      c .before .quietly2 .ensures,
+      c .before .before .with-acceptor .ensures,
+      c .before .before .before .reset-acceptor .ensures,
+      c .before .before .before .before .wiped2 .ensures,
+      c .before .before .before .before .before .held-bytes2 .ensures .0,
+      c .before .before .before .before .before .before .if1 .left,
+    )
 
 pub reset-as-spec : {M : Type 1} → statement M
 reset-as-spec =

@@ -13,9 +13,11 @@ answered-requires c κs = search needs
 
 returns : tie.Need-returns
 returns c =
-    simp (c .answered .ensures,
-    c .before .change-all .ensures,
-    c .before .before .is-deserted .ensures)
+    simp (
+      c .answered .ensures,
+      c .before .change-all .ensures,
+      c .before .before .is-deserted .ensures,
+    )
 
 pub settle-spec : {M : Type 1} → statement M
 settle-spec =

@@ -13,9 +13,11 @@ turn-requires c κs = search needs
 
 returns : tie.Need-returns
 returns c =
-    simp (c .turn .ensures,
-    c .before .effect-of .ensures,
-    c .before .before .party-at .ensures)
+    simp (
+      c .turn .ensures,
+      c .before .effect-of .ensures,
+      c .before .before .party-at .ensures,
+    )
 
 pub stepped-spec : {M : Type 1} → statement M
 stepped-spec = tie.close (tie.spec party-at-requires effect-of-requires turn-requires returns)

@@ -10,8 +10,10 @@ settle-requires c κs = search needs
 
 returns : tie.Need-returns
 returns c =
-    simp (c .settle .ensures,
-    c .before .with-party .ensures)
+    simp (
+      c .settle .ensures,
+      c .before .with-party .ensures,
+    )
 
 pub touch-spec : {M : Type 1} → statement M
 touch-spec = tie.close (tie.spec with-party-requires settle-requires returns)

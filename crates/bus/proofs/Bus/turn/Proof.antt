@@ -13,14 +13,18 @@ touch-requires c κs = search needs
 
 returns : tie.Need-returns
 returns c =
-    simp (c .hand-on .ensures,
-    c .before .other-talker .ensures,
-    c .before .before .before .if1 .taken)
+    simp (
+      c .hand-on .ensures,
+      c .before .other-talker .ensures,
+      c .before .before .before .if1 .taken,
+    )
 
 returns-2 : tie.Need-returns-2
 returns-2 c =
-    simp (c .touch .ensures,
-    c .before .if1 .left)
+    simp (
+      c .touch .ensures,
+      c .before .if1 .left,
+    )
 
 pub turn-spec : {M : Type 1} → statement M
 turn-spec =

@@ -13,9 +13,11 @@ quietly-requires c κs = search needs
 
 returns : tie.Need-returns
 returns c =
-    simp (c .quietly .ensures,
-    c .before .with-held .ensures,
-    c .before .before .held-bytes .ensures .0)
+    simp (
+      c .quietly .ensures,
+      c .before .with-held .ensures,
+      c .before .before .held-bytes .ensures .0,
+    )
 
 pub dropping-spec : {M : Type 1} → statement M
 dropping-spec =

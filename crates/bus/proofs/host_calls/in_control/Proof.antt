@@ -13,9 +13,11 @@ quietly-requires c κs = search needs
 
 returns : tie.Need-returns
 returns c =
-    simp (c .quietly .ensures,
-    c .before .change-control .ensures,
-    c .before .before .held-bytes .ensures .0)
+    simp (
+      c .quietly .ensures,
+      c .before .change-control .ensures,
+      c .before .before .held-bytes .ensures .0,
+    )
 
 pub in-control-spec : {M : Type 1} → statement M
 in-control-spec =

@@ -19,11 +19,13 @@ quietly-requires c κs = search needs
 
 returns : tie.Need-returns
 returns c =
-    simp (c .quietly .ensures,
-    c .before .with-role .ensures,
-    c .before .before .with-flags .ensures,
-    c .before .before .before .with-acceptor .ensures,
-    c .before .before .before .before .listener .ensures)
+    simp (
+      c .quietly .ensures,
+      c .before .with-role .ensures,
+      c .before .before .with-flags .ensures,
+      c .before .before .before .with-acceptor .ensures,
+      c .before .before .before .before .listener .ensures,
+    )
 
 pub listening-spec : {M : Type 1} → statement M
 listening-spec =

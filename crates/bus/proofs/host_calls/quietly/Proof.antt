@@ -10,8 +10,10 @@ does-requires c κs = search needs
 
 returns : tie.Need-returns
 returns c =
-    simp (c .does .ensures,
-    c .before .say .ensures)
+    simp (
+      c .does .ensures,
+      c .before .say .ensures,
+    )
 
 pub quietly-spec : {M : Type 1} → statement M
 quietly-spec = tie.close (tie.spec say-requires does-requires returns)

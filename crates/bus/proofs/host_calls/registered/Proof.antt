@@ -10,8 +10,10 @@ quietly-requires c κs = search needs
 
 returns : tie.Need-returns
 returns c =
-    simp (c .quietly .ensures,
-    c .before .with-request .ensures)
+    simp (
+      c .quietly .ensures,
+      c .before .with-request .ensures,
+    )
 
 pub registered-spec : {M : Type 1} → statement M
 registered-spec = tie.close (tie.spec with-request-requires quietly-requires returns)

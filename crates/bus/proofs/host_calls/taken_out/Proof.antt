@@ -22,17 +22,21 @@ does-requires c κs = search needs
 
 returns : tie.Need-returns
 returns c =
-    simp (c .stay .ensures,
-    c .before .enum-told .given .1)
+    simp (
+      c .stay .ensures,
+      c .before .enum-told .given .1,
+    )
 
 returns-2 : tie.Need-returns-2
 returns-2 c =
-    simp (c .does .ensures,
-    c .before .with-input .ensures,
-    c .before .before .say .ensures,
-    c .before .before .before .known-told .given .1,
-    c .before .before .before .before .input .given .1,
-    c .before .before .before .before .before .match .keys2)
+    simp (
+      c .does .ensures,
+      c .before .with-input .ensures,
+      c .before .before .say .ensures,
+      c .before .before .before .known-told .given .1,
+      c .before .before .before .before .input .given .1,
+      c .before .before .before .before .before .match .keys2,
+    )
 
 pub taken-out-spec : {M : Type 1} → statement M
 taken-out-spec =

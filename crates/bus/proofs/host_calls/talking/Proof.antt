@@ -13,9 +13,11 @@ quietly-requires c κs = search needs
 
 returns : tie.Need-returns
 returns c =
-    simp (c .quietly .ensures,
-    c .before .with-role .ensures,
-    c .before .before .with-flags .ensures)
+    simp (
+      c .quietly .ensures,
+      c .before .with-role .ensures,
+      c .before .before .with-flags .ensures,
+    )
 
 pub talking-spec : {M : Type 1} → statement M
 talking-spec = tie.close (tie.spec with-flags-requires with-role-requires quietly-requires returns)

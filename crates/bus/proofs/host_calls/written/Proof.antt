@@ -10,8 +10,10 @@ quietly-requires c κs = search needs
 
 returns : tie.Need-returns
 returns c =
-    simp (c .quietly .ensures,
-    c .before .with-held .ensures)
+    simp (
+      c .quietly .ensures,
+      c .before .with-held .ensures,
+    )
 
 pub written-spec : {M : Type 1} → statement M
 written-spec = tie.close (tie.spec with-held-requires quietly-requires returns)

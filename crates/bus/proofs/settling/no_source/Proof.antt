@@ -10,8 +10,10 @@ negated-requires c κs = search needs
 
 returns : tie.Need-returns
 returns c =
-    simp (c .negated .ensures,
-    c .before .is-source .ensures)
+    simp (
+      c .negated .ensures,
+      c .before .is-source .ensures,
+    )
 
 pub no-source-spec : {M : Type 1} → statement M
 no-source-spec = tie.close (tie.spec is-source-requires negated-requires returns)

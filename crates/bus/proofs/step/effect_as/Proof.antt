@@ -10,13 +10,17 @@ step-by-requires c κs = search needs
 
 returns : tie.Need-returns
 returns c =
-    simp (c .source-effect .ensures,
-    c .before .if1 .taken)
+    simp (
+      c .source-effect .ensures,
+      c .before .if1 .taken,
+    )
 
 returns-2 : tie.Need-returns-2
 returns-2 c =
-    simp (c .step-by .ensures,
-    c .before .if1 .left)
+    simp (
+      c .step-by .ensures,
+      c .before .if1 .left,
+    )
 
 pub effect-as-spec : {M : Type 1} → statement M
 effect-as-spec = tie.close (tie.spec source-effect-requires step-by-requires returns returns-2)

@@ -10,8 +10,10 @@ effect-as-requires c κs = search needs
 
 returns : tie.Need-returns
 returns c =
-    simp (c .effect-as .ensures,
-    c .before .is-source .ensures)
+    simp (
+      c .effect-as .ensures,
+      c .before .is-source .ensures,
+    )
 
 pub effect-of-spec : {M : Type 1} → statement M
 effect-of-spec = tie.close (tie.spec is-source-requires effect-as-requires returns)

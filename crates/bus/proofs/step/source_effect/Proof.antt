@@ -19,11 +19,13 @@ step-by-requires c κs = search needs
 
 returns : tie.Need-returns
 returns c =
-    simp (c .step-by .ensures,
-    c .before .of .ensures,
-    c .before .before .is-active .ensures,
-    c .before .before .before .offers .ensures,
-    c .before .before .before .before .is-polled .ensures)
+    simp (
+      c .step-by .ensures,
+      c .before .of .ensures,
+      c .before .before .is-active .ensures,
+      c .before .before .before .offers .ensures,
+      c .before .before .before .before .is-polled .ensures,
+    )
 
 pub source-effect-spec : {M : Type 1} → statement M
 source-effect-spec =
