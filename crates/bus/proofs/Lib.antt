@@ -24,9 +24,10 @@
 -- Ledger. An induction over the number of calls done. It never opens the machine: `up` (what was put and has not ended stands), `waits` (who is in ACRS now was ready at the
 -- put and has taken nothing since), `since` (who was ready waits, took, or left). The fields of `Delivered` follow in a few lines each.
 --
--- Building, Theorem, Reached. An accepted build gives the invariant, so `delivery` holds from every build. Reached has the facts of every reachable bus that later work cites.
+-- Built, Theorem, Reached. An accepted build gives the invariant, so `delivery` holds from every build. Reached has the facts of every reachable bus that later work cites.
 -- Assumes nothing.
 pub mod Examples
+pub mod Scans
 pub mod Invariant
 pub mod Change
 pub mod Putting
@@ -42,6 +43,6 @@ pub mod Passing
 pub mod SourceStep
 pub mod EachCall
 pub mod Ledger
-pub mod Building
+pub mod Built
 pub mod Theorem
 pub mod Reached

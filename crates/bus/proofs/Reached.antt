@@ -16,7 +16,7 @@ use Rattle.bus.specs.Record.{here, built, badBuild, build}
 use Rattle.bus.specs.Machine as m
 use Rattle.bus.proofs.Invariant.{sentBy, ofStatus, ofData, standsOf, Inv, atnOf, quiet}
 use Rattle.bus.proofs.Putting.{source-unique}
-use Rattle.bus.proofs.Building.{built-inv}
+use Rattle.bus.proofs.Built.{built-inv}
 use Rattle.bus.proofs.EachCall.{run-inv}
 
 -- the bus keeps the invariant

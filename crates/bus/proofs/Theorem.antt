@@ -16,7 +16,7 @@ use Rattle.bus.specs.Record.{here, stands, refuse, built, badBuild}
 use Rattle.bus.specs.Machine as m
 use Rattle.bus.specs.Delivery.{Moment, Delivered, Delivery, moment, busAt, answerAt, held}
 use Rattle.bus.proofs.Invariant.{busy, sentBy, Inv}
-use Rattle.bus.proofs.Building.{built-inv, built-held}
+use Rattle.bus.proofs.Built.{built-inv, built-held}
 use Rattle.bus.proofs.Summary.{Good}
 use Rattle.bus.proofs.EachCall.{all-good, linked, first, run-inv, put-total, byte-total}
 use Rattle.bus.proofs.Ledger as ledger

@@ -5,6 +5,8 @@ use party::Party;
 use party::Place;
 
 pub mod acceptor_step;
+pub mod building;
+pub mod calls;
 pub mod effects;
 pub mod host_calls;
 pub mod rulings;

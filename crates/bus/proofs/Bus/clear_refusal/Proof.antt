@@ -10,10 +10,12 @@ of-party-requires c κs = search needs
 
 returns : tie.Need-returns
 returns c =
-    simp (c .of-party .ensures,
-    c .before .when .ensures,
-    c .before .before .struct-known2 .given .1,
-    c .before .before .before .struct-known .given .1)
+    simp (
+      c .of-party .ensures,
+      c .before .when .ensures,
+      c .before .before .struct-known2 .given .1,
+      c .before .before .before .struct-known .given .1,
+    )
 
 pub clear-refusal-spec : {M : Type 1} → statement M
 clear-refusal-spec = tie.close (tie.spec when-requires of-party-requires returns)

@@ -19,11 +19,13 @@ of-party-requires c κs = search needs
 
 returns : tie.Need-returns
 returns c =
-    simp (c .of-party .ensures,
-    c .before .standby-refusal .ensures,
-    c .before .before .sends-command .ensures,
-    c .before .before .before .is-active .ensures,
-    c .before .before .before .before .at .ensures)
+    simp (
+      c .of-party .ensures,
+      c .before .standby-refusal .ensures,
+      c .before .before .sends-command .ensures,
+      c .before .before .before .is-active .ensures,
+      c .before .before .before .before .at .ensures,
+    )
 
 pub go-to-standby-refusal-spec : {M : Type 1} → statement M
 go-to-standby-refusal-spec =

@@ -13,9 +13,11 @@ of-party-requires c κs = search needs
 
 returns : tie.Need-returns
 returns c =
-    simp (c .of-party .ensures,
-    c .before .when .ensures,
-    c .before .before .sends-command .ensures)
+    simp (
+      c .of-party .ensures,
+      c .before .when .ensures,
+      c .before .before .sends-command .ensures,
+    )
 
 pub reset-refusal-spec : {M : Type 1} → statement M
 reset-refusal-spec =

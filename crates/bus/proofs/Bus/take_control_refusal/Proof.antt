@@ -16,10 +16,12 @@ of-party-requires c κs = search needs
 
 returns : tie.Need-returns
 returns c =
-    simp (c .of-party .ensures,
-    c .before .when .ensures,
-    c .before .before .in-standby .ensures,
-    c .before .before .before .at .ensures)
+    simp (
+      c .of-party .ensures,
+      c .before .when .ensures,
+      c .before .before .in-standby .ensures,
+      c .before .before .before .at .ensures,
+    )
 
 pub take-control-refusal-spec : {M : Type 1} → statement M
 take-control-refusal-spec =

@@ -25,13 +25,15 @@ of-party-requires c κs = search needs
 
 returns : tie.Need-returns
 returns c =
-    simp (c .of-party .ensures,
-    c .before .of-switch .ensures,
-    c .before .before .talk-refusal .ensures,
-    c .before .before .before .is-on .ensures,
-    c .before .before .before .before .is-found .ensures,
-    c .before .before .before .before .before .other-talker .ensures,
-    c .before .before .before .before .before .before .before .before .at .ensures)
+    simp (
+      c .of-party .ensures,
+      c .before .of-switch .ensures,
+      c .before .before .talk-refusal .ensures,
+      c .before .before .before .is-on .ensures,
+      c .before .before .before .before .is-found .ensures,
+      c .before .before .before .before .before .other-talker .ensures,
+      c .before .before .before .before .before .before .before .before .at .ensures,
+    )
 
 pub talk-only-refusal-spec : {M : Type 1} → statement M
 talk-only-refusal-spec =

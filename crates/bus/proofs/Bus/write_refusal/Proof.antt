@@ -19,11 +19,13 @@ of-party-requires c κs = search needs
 
 returns : tie.Need-returns
 returns c =
-    simp (c .of-party .ensures,
-    c .before .of-switch .ensures,
-    c .before .before .when .ensures,
-    c .before .before .before .is-full .ensures,
-    c .before .before .before .before .at .ensures)
+    simp (
+      c .of-party .ensures,
+      c .before .of-switch .ensures,
+      c .before .before .when .ensures,
+      c .before .before .before .is-full .ensures,
+      c .before .before .before .before .at .ensures,
+    )
 
 pub write-refusal-spec : {M : Type 1} → statement M
 write-refusal-spec =

@@ -78,7 +78,7 @@ module _ (xs : List ℕ) (s : Place) (ok : badBuild xs s ≡ false) where
   neither : (ltb 15 (length xs) ≡ false) × (twoEqual xs ≡ false)
   neither = none-of (eqb (length xs) 0) (ltb 15 (length xs)) (anyOver30 xs) (twoEqual xs) (not (ltb (s .0) (length xs))) ok
 
-  fits : length xs ≤ 15
+  pub fits : length xs ≤ 15
   fits = ltb-false 15 (length xs) (neither .0)
 
   -- every place holds a party just built

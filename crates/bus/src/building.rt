@@ -1,0 +1,136 @@
+// Building a bus.
+ghost use mathlib.Core.Path.{_≡_};
+ghost use mathlib.Core.Bool.{not, _||_};
+ghost use Prim.Native.Nat.{_≤_};
+ghost use lib.ListN.{length};
+ghost use Rattle.parties.specs.Places.{within};
+ghost use Rattle.bus.specs.Record.{placed, built, anyOver30, isAmong, twoEqual, badBuild, build, refuse};
+ghost use Rattle.bus.specs.Types.ruling;
+use crate::Answer;
+use crate::Bus;
+use crate::Refusal;
+use crate::Standing;
+use message::Address;
+use party::Party;
+use party::Place;
+
+fn either(a: bool, b: bool) -> bool
+    ensures { λ r. ⌜ r ≡ (a || b) ⌝ }
+{
+    if a { true } else { b }
+}
+
+fn any_over_30(addresses: &[u8]) -> bool
+    ensures { λ r. ⌜ r ≡ anyOver30 (now (addresses .entry)) ⌝ }
+{
+    let mut found = false;
+    let mut i: usize = 0;
+    while i < addresses.len() {
+        found = either(found, 30 < addresses[i]);
+        i = i + 1;
+    }
+    found
+}
+
+fn is_among(a: u8, addresses: &[u8]) -> bool
+    ensures { λ r. ⌜ r ≡ isAmong a (now (addresses .entry)) ⌝ }
+{
+    let mut found = false;
+    let mut i: usize = 0;
+    while i < addresses.len() {
+        found = either(found, a == addresses[i]);
+        i = i + 1;
+    }
+    found
+}
+
+fn two_equal(addresses: &[u8]) -> bool
+    ensures { λ r. ⌜ r ≡ twoEqual (now (addresses .entry)) ⌝ }
+{
+    let mut found = false;
+    let mut i: usize = 0;
+    while i < addresses.len() {
+        let a = addresses[i];
+        i = i + 1;
+        found = either(found, is_among(a, &addresses[i..]));
+    }
+    found
+}
+
+fn bad_addresses(over: bool, equal: bool, known: bool) -> bool
+    ensures { λ r. ⌜ r ≡ (over || equal || not known) ⌝ }
+{
+    if over {
+        true
+    } else if equal {
+        true
+    } else if known {
+        false
+    } else {
+        true
+    }
+}
+
+// Is this no bus to be built?
+fn is_bad(addresses: &[u8], system: Place) -> bool
+    ensures { λ r. ⌜ r ≡ badBuild (now (addresses .entry)) system ⌝ }
+{
+    let n = addresses.len();
+    if n == 0 {
+        return true;
+    }
+    if 15 < n {
+        return true;
+    }
+    let i = system.0 as usize;
+    bad_addresses(any_over_30(addresses), two_equal(addresses), i < n)
+}
+
+fn at_most_15(n: usize) -> usize
+    ensures { λ r. ⌜ (r ≡ within n) × (r ≤ 15) × (r ≤ n) ⌝ }
+{
+    if n < 15 { n } else { 15 }
+}
+
+// A party for each address, then the idle party.
+fn parties_at(addresses: &[u8]) -> [Party; 15]
+    ensures { λ r. ⌜ r ≡ placed 15 (now (addresses .entry)) ⌝ }
+{
+    let n = at_most_15(addresses.len());
+    let mut out = [Party::IDLE; 15];
+    let mut k: usize = 0;
+    while k < n {
+        let p = Party::build(Address(addresses[k]));
+        out[k] = p;
+        k = k + 1;
+    }
+    out
+}
+
+fn bus_of(addresses: &[u8], system: Place) -> Answer
+    requires { ⌜ length (now addresses) ≤ 15 ⌝ }
+    ensures { λ r. ⌜ r ≡ refuse ruling.Accepted (built (now (addresses .entry)) system) ⌝ }
+{
+    let parties = parties_at(addresses);
+    let count = (addresses.len() % 256) as u8;
+    let bus = Bus {
+        parties,
+        count,
+        system,
+        standing: Standing::Nothing,
+    };
+    bus.refuse(Refusal::Accepted)
+}
+
+impl Bus {
+    // A bus with a party at each address; a refused build gives the bus of no parties.
+    pub fn build(addresses: &[u8], system: Place) -> Answer
+        ensures { λ r. ⌜ r ≡ build (now (addresses .entry)) system ⌝ }
+    {
+        if is_bad(addresses, system) {
+            Bus::EMPTY.refuse(Refusal::BadBuild)
+        } else {
+            bus_of(addresses, system)
+        }
+    }
+}
