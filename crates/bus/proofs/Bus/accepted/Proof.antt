@@ -138,9 +138,7 @@ returns : tie.Need-returns
 returns c =
     simp (
       c .stepped .ensures,
-      c .before .known-told .given .1,
       c .before .before .c .given .1,
-      c .before .before .before .match .keys1,
     )
 
 returns-2 : tie.Need-returns-2
@@ -150,9 +148,7 @@ returns-2 c =
       c .before .written .ensures,
       c .before .before .at .ensures,
       c .before .before .before .is-on .ensures,
-      c .before .before .before .before .known-told2 .given .1,
       c .before .before .before .before .before .c2 .given .1,
-      c .before .before .before .before .before .before .match .keys2,
     )
 
 returns-3 : tie.Need-returns-3
@@ -161,9 +157,7 @@ returns-3 c =
       c .touch2 .ensures,
       c .before .taken-out .ensures,
       c .before .before .at2 .ensures,
-      c .before .before .before .known-told3 .given .1,
       c .before .before .before .before .c3 .given .1,
-      c .before .before .before .before .before .match .keys3,
     )
 
 returns-4 : tie.Need-returns-4
@@ -172,9 +166,7 @@ returns-4 c =
       c .touch3 .ensures,
       c .before .registered .ensures,
       c .before .before .at3 .ensures,
-      c .before .before .before .known-told4 .given .1,
       c .before .before .before .before .c4 .given .1,
-      c .before .before .before .before .before .match .keys4,
     )
 
 returns-5 : tie.Need-returns-5
@@ -184,9 +176,7 @@ returns-5 c =
       c .before .listening .ensures,
       c .before .before .at4 .ensures,
       c .before .before .before .is-on2 .ensures,
-      c .before .before .before .before .known-told5 .given .1,
       c .before .before .before .before .before .c5 .given .1,
-      c .before .before .before .before .before .before .match .keys5,
     )
 
 returns-6 : tie.Need-returns-6
@@ -196,9 +186,7 @@ returns-6 c =
       c .before .talking .ensures,
       c .before .before .at5 .ensures,
       c .before .before .before .is-on3 .ensures,
-      c .before .before .before .before .known-told6 .given .1,
       c .before .before .before .before .before .c6 .given .1,
-      c .before .before .before .before .before .before .match .keys6,
     )
 
 returns-7 : tie.Need-returns-7
@@ -207,9 +195,7 @@ returns-7 c =
       c .alarm .ensures,
       c .before .in-control .ensures,
       c .before .before .at6 .ensures,
-      c .before .before .before .known-told7 .given .1,
       c .before .before .before .before .c7 .given .1,
-      c .before .before .before .before .before .match .keys7,
     )
 
 returns-8 : tie.Need-returns-8
@@ -218,18 +204,14 @@ returns-8 c =
       c .alarm2 .ensures,
       c .before .in-control2 .ensures,
       c .before .before .at7 .ensures,
-      c .before .before .before .known-told8 .given .1,
       c .before .before .before .before .c8 .given .1,
-      c .before .before .before .before .before .match .keys8,
     )
 
 returns-9 : tie.Need-returns-9
 returns-9 c =
     simp (
       c .cleared .ensures,
-      c .before .known-told9 .given .1,
       c .before .before .c9 .given .1,
-      c .before .before .before .match .keys9,
     )
 
 returns-10 : tie.Need-returns-10
@@ -237,9 +219,7 @@ returns-10 c =
     simp (
       c .been-reset .ensures,
       c .before .at8 .ensures,
-      c .before .before .known-told10 .given .1,
       c .before .before .before .c10 .given .1,
-      c .before .before .before .before .match .keys10,
     )
 
 returns-11 : tie.Need-returns-11
@@ -248,9 +228,7 @@ returns-11 c =
       c .touch6 .ensures,
       c .before .dropping .ensures,
       c .before .before .at9 .ensures,
-      c .before .before .before .known-told11 .given .1,
       c .before .before .before .before .c11 .given .1,
-      c .before .before .before .before .before .match .keys11,
     )
 
 returns-12 : tie.Need-returns-12

@@ -13,8 +13,6 @@ returns c =
     simp (
       c .of-party .ensures,
       c .before .when .ensures,
-      c .before .before .struct-known2 .given .1,
-      c .before .before .before .struct-known .given .1,
     )
 
 pub clear-refusal-spec : {M : Type 1} → statement M

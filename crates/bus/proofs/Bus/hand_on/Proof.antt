@@ -25,9 +25,7 @@ returns-2 : tie.Need-returns-2
 returns-2 c =
     simp (
       c .pass .ensures,
-      c .before .known-told .given .1,
       c .before .before .f .given .1,
-      c .before .before .before .match .keys2,
     )
 
 pub hand-on-spec : {M : Type 1} → statement M

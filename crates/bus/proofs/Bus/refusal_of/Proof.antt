@@ -75,99 +75,77 @@ returns : tie.Need-returns
 returns c =
     simp (
       c .party-refusal .ensures,
-      c .before .known-told .given .1,
       c .before .before .c .given .1,
-      c .before .before .before .match .keys1,
     )
 
 returns-2 : tie.Need-returns-2
 returns-2 c =
     simp (
       c .write-refusal .ensures,
-      c .before .known-told2 .given .1,
       c .before .before .c2 .given .1,
-      c .before .before .before .match .keys2,
     )
 
 returns-3 : tie.Need-returns-3
 returns-3 c =
     simp (
       c .read-refusal .ensures,
-      c .before .known-told3 .given .1,
       c .before .before .c3 .given .1,
-      c .before .before .before .match .keys3,
     )
 
 returns-4 : tie.Need-returns-4
 returns-4 c =
     simp (
       c .party-refusal2 .ensures,
-      c .before .known-told4 .given .1,
       c .before .before .c4 .given .1,
-      c .before .before .before .match .keys4,
     )
 
 returns-5 : tie.Need-returns-5
 returns-5 c =
     simp (
       c .listen-only-refusal .ensures,
-      c .before .known-told5 .given .1,
       c .before .before .c5 .given .1,
-      c .before .before .before .match .keys5,
     )
 
 returns-6 : tie.Need-returns-6
 returns-6 c =
     simp (
       c .talk-only-refusal .ensures,
-      c .before .known-told6 .given .1,
       c .before .before .c6 .given .1,
-      c .before .before .before .match .keys6,
     )
 
 returns-7 : tie.Need-returns-7
 returns-7 c =
     simp (
       c .take-control-refusal .ensures,
-      c .before .known-told7 .given .1,
       c .before .before .c7 .given .1,
-      c .before .before .before .match .keys7,
     )
 
 returns-8 : tie.Need-returns-8
 returns-8 c =
     simp (
       c .go-to-standby-refusal .ensures,
-      c .before .known-told8 .given .1,
       c .before .before .c8 .given .1,
-      c .before .before .before .match .keys8,
     )
 
 returns-9 : tie.Need-returns-9
 returns-9 c =
     simp (
       c .clear-refusal .ensures,
-      c .before .known-told9 .given .1,
       c .before .before .c9 .given .1,
-      c .before .before .before .match .keys9,
     )
 
 returns-10 : tie.Need-returns-10
 returns-10 c =
     simp (
       c .reset-refusal .ensures,
-      c .before .known-told10 .given .1,
       c .before .before .c10 .given .1,
-      c .before .before .before .match .keys10,
     )
 
 returns-11 : tie.Need-returns-11
 returns-11 c =
     simp (
       c .party-refusal3 .ensures,
-      c .before .known-told11 .given .1,
       c .before .before .c11 .given .1,
-      c .before .before .before .match .keys11,
     )
 
 returns-12 : tie.Need-returns-12

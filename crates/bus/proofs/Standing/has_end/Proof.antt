@@ -13,11 +13,7 @@ returns c = search needs
 
 returns-2 : tie.Need-returns-2
 returns-2 c =
-    simp (
-      c .known-told .given .1,
-      c .before .self .given .1,
-      c .before .before .match .keys2,
-    )
+    simp (c .before .self .given .1)
 
 pub has-end-spec : {M : Type 1} → statement M
 has-end-spec = tie.close (tie.spec enum-told enum-known-self returns returns-2)

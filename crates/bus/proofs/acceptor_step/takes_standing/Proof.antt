@@ -29,9 +29,7 @@ returns-2 c =
     simp (
       c .hears .ensures,
       c .before .if1 .taken,
-      c .before .before .known-told .given .1,
       c .before .before .before .st .given .1,
-      c .before .before .before .before .match .keys2,
     )
 
 returns-3 : tie.Need-returns-3
@@ -39,9 +37,7 @@ returns-3 c =
     simp (
       c .takes .ensures,
       c .before .if1 .left,
-      c .before .before .known-told .given .1,
       c .before .before .before .st .given .1,
-      c .before .before .before .before .match .keys2,
     )
 
 pub takes-standing-spec : {M : Type 1} → statement M

@@ -33,9 +33,7 @@ returns-2 c =
       c .does .ensures,
       c .before .with-input .ensures,
       c .before .before .say .ensures,
-      c .before .before .before .known-told .given .1,
       c .before .before .before .before .input .given .1,
-      c .before .before .before .before .before .match .keys2,
     )
 
 pub taken-out-spec : {M : Type 1} → statement M

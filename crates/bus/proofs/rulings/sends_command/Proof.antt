@@ -18,11 +18,7 @@ returns-2 : tie.Need-returns-2
 returns-2 c =
     simp (
       c .sends-as .ensures,
-      c .before .struct-known2 .given .1,
-      c .before .before .struct-known .given .1,
-      c .before .before .before .known-told .given .1,
       c .before .before .before .before .st .given .1,
-      c .before .before .before .before .before .match .keys2,
     )
 
 pub sends-command-spec : {M : Type 1} → statement M

@@ -22,9 +22,7 @@ returns-2 c =
     simp (
       c .no-source .ensures,
       c .before .party-at .ensures,
-      c .before .before .known-told .given .1,
       c .before .before .before .st .given .1,
-      c .before .before .before .before .match .keys2,
     )
 
 pub is-deserted-spec : {M : Type 1} → statement M

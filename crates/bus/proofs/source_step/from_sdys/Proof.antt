@@ -36,9 +36,7 @@ returns-2 c =
     simp (
       c .stay .ensures,
       c .before .if1 .taken,
-      c .before .before .known-told .given .1,
       c .before .before .before .offer .given .1,
-      c .before .before .before .before .match .keys2,
     )
 
 returns-3 : tie.Need-returns-3
@@ -47,9 +45,7 @@ returns-3 c =
       c .put-up .ensures,
       c .before .if2 .taken,
       c .before .before .if1 .left,
-      c .before .before .before .known-told .given .1,
       c .before .before .before .before .offer .given .1,
-      c .before .before .before .before .before .match .keys2,
     )
 
 returns-4 : tie.Need-returns-4
@@ -58,9 +54,7 @@ returns-4 c =
       c .not-accepted .ensures,
       c .before .if2 .left,
       c .before .before .if1 .left,
-      c .before .before .before .known-told .given .1,
       c .before .before .before .before .offer .given .1,
-      c .before .before .before .before .before .match .keys2,
     )
 
 pub from-sdys-spec : {M : Type 1} → statement M

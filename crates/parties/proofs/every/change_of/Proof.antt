@@ -27,9 +27,7 @@ returns : tie.Need-returns
 returns c =
     simp (
       c .settled .ensures,
-      c .before .known-told .given .1,
       c .before .before .c .given .1,
-      c .before .before .before .match .keys1,
     )
 
 returns-2 : tie.Need-returns-2
@@ -37,9 +35,7 @@ returns-2 c =
     simp (
       c .settled2 .ensures,
       c .before .attended .ensures,
-      c .before .before .known-told2 .given .1,
       c .before .before .before .c2 .given .1,
-      c .before .before .before .before .match .keys2,
     )
 
 returns-3 : tie.Need-returns-3

@@ -20,11 +20,7 @@ returns-2 c = search needs
 
 returns-3 : tie.Need-returns-3
 returns-3 c =
-    simp (
-      c .known-told .given .1,
-      c .before .f .given .1,
-      c .before .before .match .keys2,
-    )
+    simp (c .before .f .given .1)
 
 pub found-or-spec : {M : Type 1} → statement M
 found-or-spec = tie.close (tie.spec enum-told enum-known-f returns returns-2 returns-3)
