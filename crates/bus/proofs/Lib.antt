@@ -25,6 +25,8 @@
 -- put and has taken nothing since), `since` (who was ready waits, took, or left). The fields of `Delivered` follow in a few lines each.
 --
 -- Built, Theorem, Reached. An accepted build gives the invariant, so `delivery` holds from every build. Reached has the facts of every reachable bus that later work cites.
+--
+-- Scans has the laws of the loops over addresses; the folders hold the proofs of the functions in src/, each under its own name.
 -- Assumes nothing.
 pub mod Examples
 pub mod Scans

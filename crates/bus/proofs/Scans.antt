@@ -10,7 +10,6 @@ use native.Mathlib.Nat.{not-suc-le-zero, le-of-suc-le-suc}
 use lib.Dec.{ltb}
 use lib.ListN.{length, getD, set, take, drop, drop-of-length-le}
 use lib.Seq.{drop-cons, take-all}
-use borrow.Author.Tests.{ltb-false}
 use Rattle.message.specs.Meaning.{address}
 use Rattle.party.specs.Parts.{newborn}
 use Rattle.party.proofs.Logic.{test}
