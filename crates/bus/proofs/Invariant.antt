@@ -157,7 +157,7 @@ look-idle st c j p = rw c
 pub same-heard : (u w : ℕ → Role) → ((j : ℕ) → u j ≡ w j) → Addressed w → Addressed u
 same-heard u w h = weaken w u (λ j. weak-same (w j) (u j) (h j))
 
-settled-idle : (t : Bool) → settled t idle ≡ idle
+pub settled-idle : (t : Bool) → settled t idle ≡ idle
 settled-idle t = newborn-still t (record { 0 = 0 })
 
 module _ (n : ℕ) (atn : Bool) (v : ℕ → Party) where

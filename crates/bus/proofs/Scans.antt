@@ -14,12 +14,9 @@ use Rattle.message.specs.Meaning.{address}
 use Rattle.party.specs.Parts.{newborn}
 use Rattle.party.proofs.Logic.{test}
 use Rattle.parties.specs.Places.{within}
+use Rattle.parties.proofs.Loops.{or-assoc}
 use Rattle.bus.specs.Types.{Party}
 use Rattle.bus.specs.Record.{placed}
-
-or-assoc : (x y z : Bool) → ((x || y) || z) ≡ (x || (y || z))
-or-assoc true y z = refl
-or-assoc false y z = refl
 
 or-false : (x : Bool) → (x || false) ≡ x
 or-false true = refl
@@ -28,7 +25,7 @@ or-false false = refl
 -- g looks through a list: h of each element and what follows it. Before turn i the loop has f, and f or what is left to find is what there is.
 module _ (g : List ℕ → Bool) (h : ℕ → List ℕ → Bool) (none : g [] ≡ false) (more : (x : ℕ) (xs : List ℕ) → g (x ∷ xs) ≡ (h x xs || g xs)) (l : List ℕ) (i : ℕ) (f : Bool) (inv : (f || g (drop i l)) ≡ g l) where
   pub scan-turn : (q : Bool) → i < length l → q ≡ (f || h (getD l i 0) (drop (i + 1) l)) → (q || g (drop (i + 1) l)) ≡ g l
-  scan-turn q m e = ap (λ (x : Bool). x || g (drop (i + 1) l)) e ∙ or-assoc f (h (getD l i 0) (drop (i + 1) l)) (g (drop (i + 1) l)) ∙ ap (λ (x : Bool). f || x) (sym rest) ∙ inv
+  scan-turn q m e = ap (λ (x : Bool). x || g (drop (i + 1) l)) e ∙ sym (or-assoc f (h (getD l i 0) (drop (i + 1) l)) (g (drop (i + 1) l))) ∙ ap (λ (x : Bool). f || x) (sym rest) ∙ inv
     where
       rest : g (drop i l) ≡ (h (getD l i 0) (drop (i + 1) l) || g (drop (i + 1) l))
       rest = rw (add-one i) (ap g (drop-cons l i 0 m) ∙ more (getD l i 0) (drop (suc i) l))

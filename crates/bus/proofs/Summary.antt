@@ -16,7 +16,6 @@ use Rattle.party.specs.Sending.{isSource}
 use Rattle.party.specs.Settling.{settled}
 use Rattle.party.proofs.Logic.{no}
 use Rattle.party.proofs.Roles.{Addressed}
-use Rattle.party.proofs.Settled.{newborn-still}
 use Rattle.parties.specs.Places.{place, at, some, each, total}
 use Rattle.parties.proofs.Places.{upd, Tail, at-set, at-each-all, some-set, some-none, total-set, total-each}
 use Rattle.bus.specs.Types.{Place, Party, Acrs, Acds, Full, Kind, Event, Standing, Nothing, Byte, Bus, Said, Answer, Call, Refusal}
@@ -27,7 +26,7 @@ use Rattle.bus.specs.Record.{here, stands, refuse}
 use Rattle.bus.specs.Settling.{say, settleAs, attend, touch, deserted}
 use Rattle.bus.specs.Step.{does}
 use Rattle.bus.specs.Delivery.{isPut, isEnd, isTake, isHostPut, wrote, held}
-use Rattle.bus.proofs.Invariant.{look, Pre, Inv, atnOf, settle-inv}
+use Rattle.bus.proofs.Invariant.{look, Pre, Inv, atnOf, settled-idle, settle-inv}
 use Rattle.bus.proofs.Change.{keep-pre, Kept, upd-all}
 use Rattle.bus.proofs.Attention.{Raw, attend-inv, no-taker, attend-held}
 
@@ -90,9 +89,6 @@ refused b c r I w = record {
   ready = λ h. no (cc);
   last = λ h. no (cc);
 }
-
-settled-idle : (t : Bool) → settled t idle ≡ idle
-settled-idle t = newborn-still t (record { 0 = 0 })
 
 -- the parties after settling
 pub seen-settled : (b : Bus) (t : Bool) (ps : List Party) → length ps ≡ 15 → b .count ≤ 15 → Tail (b .count) ps → (j : ℕ) → at (each (b .count) (settled t) ps) j ≡ settled t (at ps j)

@@ -21,7 +21,7 @@ use Rattle.parties.proofs.Places.{each-past}
 pub length-of-map : (X Y : Type 0) (f : X → Y) (l : List X) (n : ℕ) → length (map f l) ≡ n → length l ≡ n
 length-of-map X Y f l n h = sym (length-map l f) ∙ h
 
-or-assoc : (x y z : Bool) → (x || (y || z)) ≡ ((x || y) || z)
+pub or-assoc : (x y z : Bool) → (x || (y || z)) ≡ ((x || y) || z)
 or-assoc true y z = refl
 or-assoc false y z = refl
 
