@@ -1,7 +1,7 @@
 -- What an accepted call's ruling says: the tests that it passed. And what DAV says of who joins.
 -- Assumes nothing.
 use mathlib.Core.Path.{_≡_, refl}
-use mathlib.Core.Bool.{Bool, true, false, cond}
+use mathlib.Core.Bool.{Bool, true, false, cond, _&&_}
 use Prim.Native.Nat.{ℕ, _<_}
 use native.Mathlib.Omega.{arith}
 use lib.Dec.{ltb}
@@ -14,7 +14,7 @@ use Rattle.bus.specs.Types.ruling
 use Rattle.bus.specs.Words.{isAccepted}
 use Rattle.bus.specs.Record.{here, stands, lines}
 use Rattle.bus.specs.Calls.{joining}
-use Rattle.bus.specs.Refusals.{ofParty, ofSwitch, isOn}
+use Rattle.bus.specs.Refusals.{ofParty, ofSwitch, isOn, isInside}
 use Rattle.bus.proofs.Invariant.{Inv}
 
 -- What a ruling of Accepted says of the test that it passed.
@@ -26,8 +26,12 @@ pub if-not : (t : Bool) (x r : Refusal) → isAccepted r ≡ false → isAccepte
 if-not true x r n e = no (cc)
 if-not false x r n e = (refl, e)
 
-pub known : (b : Bus) (p : Place) (r : Refusal) → isAccepted (ofParty b p r) ≡ true → (p .0 < b .count) × (isAccepted r ≡ true)
-known b p r e = let h = if-so (ltb (p .0) (b .count)) r ruling.NoParty refl e in (ltb-true (p .0) (b .count) (h .0), h .1)
+pub known : (b : Bus) (p : Place) (r : Refusal) → isAccepted (ofParty (isInside (b .count) (p .0)) r) ≡ true → (p .0 < b .count) × (isAccepted r ≡ true)
+known b p r e = let h = if-so (isInside (b .count) (p .0)) r ruling.NoParty refl e in (ltb-true (p .0) (b .count) (right (ltb (p .0) 15) (ltb (p .0) (b .count)) (h .0)), h .1)
+  where
+    right : (x y : Bool) → (x && y) ≡ true → y ≡ true
+    right true y g = g
+    right false y g = no (cc)
 
 pub switched : (x : ℕ) (r : Refusal) → isAccepted (ofSwitch x r) ≡ true → (ltb 1 x ≡ false) × (isAccepted r ≡ true)
 switched x r e = if-not (ltb 1 x) r ruling.BadValue refl e

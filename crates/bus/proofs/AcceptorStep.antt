@@ -16,8 +16,9 @@ use Rattle.bus.specs.Types.{Place, Party, Strs, Acceptor, Aids, Anrs, Ac
 use Rattle.bus.specs.Types.ev
 use Rattle.bus.specs.Types.call-of
 use Rattle.bus.specs.Record.{here, stands, lines}
-use Rattle.bus.specs.Settling.{say, touch}
-use Rattle.bus.specs.Step.{stay, move, taking, hearing, take, acceptorStep, turn}
+use Rattle.bus.specs.Settling.{say}
+use Rattle.bus.specs.Step.{stay, move, taking, hearing, take, acceptorStep}
+use Rattle.bus.specs.Following.{touch, follow}
 use Rattle.bus.specs.Delivery.{isPut, isEnd, isTake, isHostPut}
 use Rattle.bus.proofs.Invariant.{sentBy, isCommand, codeOf, waits, look, Inv, atnOf, quiet}
 use Rattle.bus.proofs.Change.{weak-look}
@@ -44,7 +45,7 @@ hear-event v l = hear-events TakeEvent
 module _ (b : Bus) (I : Inv b) (p : Place) (l : p .0 < b .count) (ns : isSource (atnOf b) (here b (p .0)) ≡ false) where
   -- what an effect of this step comes to
   G : Effect → Type 0
-  G e = Good b (call-of.Step p) (turn (atnOf b) b (p .0) e)
+  G e = Good b (call-of.Step p) (follow (atnOf b) b (p .0) e)
 
   not-active : isActive (here b (p .0)) ≡ false
   not-active = test (isActive (here b (p .0))) (λ h. let z = source-of-active (atnOf b) (here b (p .0)) h in no (cc)) (λ h. h)
@@ -207,6 +208,6 @@ module _ (b : Bus) (I : Inv b) (p : Place) (l : p .0 < b .count) (ns : isSource 
   by-state Awns ea = cond-elim G (lines b .dav) (λ _. stays (b .standing) refl)
       (λ d. shift-good _ (λ s e. let z = none-stands d in no (cc)) (λ e. no (cc)) (λ e. no (cc)) (nobody (b .standing) Anrs (here b (p .0) .acceptor) (none-stands d)) (λ s e. no (cc)) (λ t e. no (cc)) (λ e. no (cc)))
 
-  pub accept-good : (x : Acceptor) → here b (p .0) .acceptor ≡ x → Good b (call-of.Step p) (turn (atnOf b) b (p .0) (acceptorStep x (lines b) (b .standing) (here b (p .0))))
+  pub accept-good : (x : Acceptor) → here b (p .0) .acceptor ≡ x → Good b (call-of.Step p) (follow (atnOf b) b (p .0) (acceptorStep x (lines b) (b .standing) (here b (p .0))))
   unfolding G
   accept-good x ea = by-state x ea

@@ -8,6 +8,7 @@ use Prim.Native.Nat.{ℕ, _+_, _≤_, _<_}
 use native.Mathlib.Omega.{arith}
 use lib.Dec.{eqb}
 use lib.ListN.{length, set, length-set}
+use lib.Seq.{set-getD}
 use borrow.Author.Tests.{eq-eqb}
 use Rattle.party.specs.Parts.{idle, isFull, one, heldBytes, withAcceptor}
 use Rattle.party.specs.Driving.{isActive}
@@ -18,14 +19,15 @@ use Rattle.party.proofs.Roles.{nameOf, Single, Weak, weak-unaddressed}
 use Rattle.parties.specs.Places.{at, each, total}
 use Rattle.parties.specs.Lines.{linesByte}
 use Rattle.parties.proofs.Places.{upd, at-set, at-each-all, length-each, total-set, total-each, total-split}
-use Rattle.bus.specs.Types.{Place, Party, Control, Idle, Standby, Active, Acceptor, Aids, Anrs, Acrs, Acds, Empty, Command, Data, Status, Standing, Nothing, Byte, Bus, Said, Call}
+use Rattle.bus.specs.Types.{Place, Party, Control, Idle, Standby, Active, Acceptor, Aids, Anrs, Acrs, Acds, Empty, Command, Data, Status, Standing, Nothing, Byte, Bus, Said, Call, Effect}
 use Rattle.bus.specs.Types.ruling
 use Rattle.bus.specs.Types.ev
 use Rattle.bus.specs.Types.call-of
 use Rattle.bus.specs.Words.{isAccepted}
 use Rattle.bus.specs.Record.{here, lines, sendsCommand}
-use Rattle.bus.specs.Settling.{say, settleAs, alarm, touch, deserted}
-use Rattle.bus.specs.Calls.{quiet, controlled, resetAcceptor, linesAnswer}
+use Rattle.bus.specs.Settling.{say, settle, settleAs, deserted}
+use Rattle.bus.specs.Calls.{quiet, controlled, resetAcceptor, tell}
+use Rattle.bus.specs.Following.{alarm, touch, follow}
 use Rattle.bus.specs.Refusals.{inStandby, standbyRefusal, refusal}
 use Rattle.bus.specs.Machine.{accepted}
 use Rattle.bus.specs.Delivery.{wrote, held}
@@ -173,7 +175,7 @@ module _ (b : Bus) (I : Inv b) (p : Place) where
   pub reset-good : isAccepted (refusal (lines b) b (call-of.Reset p)) ≡ true → Good b (call-of.Reset p) (accepted (lines b) b (call-of.Reset p))
   reset-good ok = let r = known b p (cond (sendsCommand (p .0) (b .standing)) ruling.Standing ruling.Accepted) ok in
       let f = if-not (sendsCommand (p .0) (b .standing)) ruling.Accepted ruling.Standing refl (r .1) .0 in
-      cond-elim (Good b (call-of.Reset p)) (isActive (here b (p .0)))
+      cond-elim (λ (e : Effect). Good b (call-of.Reset p) (follow (atnOf b) b (p .0) e)) (isActive (here b (p .0)))
       (λ e. alarm-good b (call-of.Reset p) I (heldBytes (here b (p .0))) (set (b .parties) (p .0) new) (set-len b I (p .0) new)
       (raw-set b I (p .0) (r .0) new (quietly (active-busy (here b (p .0)) e) f) refl (λ x. no (cc)) (λ x. no (cc)) (λ x. no (cc)))
       (let k = set-held b I (p .0) (r .0) new in omega arith))
@@ -238,8 +240,8 @@ clear-good b I p ok = let r = known b p (cond (eqb (p .0) (b .system .0)) ruling
     (clear-raw b I (p .0) (r .0)) (clear-held b I (p .0) (r .0))
 
 -- lines
-pub lines-good : (b : Bus) → Inv b → Good b call-of.Lines (linesAnswer (lines b) b)
-lines-good b I = record {
+pub lines-good : (b : Bus) → Inv b → Good b call-of.Lines (touch (atnOf b) b 0 (tell (lines b) (b .standing) (here b 0)))
+lines-good b I = subst (λ (ps : List Party). Good b call-of.Lines (settle (atnOf b) b s ps (b .standing))) (sym (set-getD (b .parties) 0 idle)) (record {
   inv = settle-inv b (atnOf b) s (b .parties) (b .standing) (I .size) (I .small) refl (I .pre);
   shape = shape (deserted t (b .parties) (b .standing)) refl;
   bytes = rw (total-each (b .count) heldBytes (settled t) (b .parties) (λ p. refl)) refl;
@@ -249,7 +251,7 @@ lines-good b I = record {
   leaves = λ h j e. stayed (acc j ∙ e);
   ready = λ h. no (cc);
   last = λ h. no (cc);
-}
+})
   where
     s : Said
     s = say ev.Lines (linesByte (lines b)) false 0

@@ -15,7 +15,7 @@ use Rattle.bus.specs.Types.ruling
 use Rattle.bus.specs.Types.call-of
 use Rattle.bus.specs.Words.{isAccepted}
 use Rattle.bus.specs.Record.{here, stands, lines}
-use Rattle.bus.specs.Step.{step, turn}
+use Rattle.bus.specs.Following.{follow}
 use Rattle.bus.specs.Refusals.{refusal}
 use Rattle.bus.specs.Machine as m
 use Rattle.bus.specs.Delivery.{Moment, history, isPut, isEnd, isHostPut, wrote, tally, held}
@@ -29,9 +29,9 @@ use Rattle.bus.proofs.ControlCalls.{take-good, standby-good, reset-good
 use Rattle.bus.proofs.AcceptorStep.{accept-good}
 use Rattle.bus.proofs.SourceStep.{source-good}
 
-step-good : (b : Bus) → Inv b → (p : Place) → isAccepted (refusal (lines b) b (call-of.Step p)) ≡ true → Good b (call-of.Step p) (step (lines b) b (p .0))
+step-good : (b : Bus) → Inv b → (p : Place) → isAccepted (refusal (lines b) b (call-of.Step p)) ≡ true → Good b (call-of.Step p) (m.accepted (lines b) b (call-of.Step p))
 step-good b I p ok = let l = known b p ruling.Accepted ok .0 in
-    cond-elim (λ (e : Effect). Good b (call-of.Step p) (turn (atnOf b) b (p .0) e)) (isSource (atnOf b) (here b (p .0)))
+    cond-elim (λ (e : Effect). Good b (call-of.Step p) (follow (atnOf b) b (p .0) e)) (isSource (atnOf b) (here b (p .0)))
     (λ so. source-good b I p l so (here b (p .0) .source) refl)
     (λ ns. accept-good b I p l ns (here b (p .0) .acceptor) refl)
 

@@ -12,9 +12,10 @@ use Rattle.bus.specs.Types.ev
 use Rattle.bus.specs.Types.call-of
 use Rattle.bus.specs.Words.{isAccepted}
 use Rattle.bus.specs.Record.{here, lines}
-use Rattle.bus.specs.Settling.{say, touch}
+use Rattle.bus.specs.Settling.{say}
 use Rattle.bus.specs.Step.{does}
 use Rattle.bus.specs.Calls.{read, drop}
+use Rattle.bus.specs.Following.{touch, follow}
 use Rattle.bus.specs.Refusals.{ofSwitch, isOn, refusal}
 use Rattle.bus.specs.Machine.{accepted}
 use Rattle.bus.proofs.Invariant.{Inv, atnOf}
@@ -41,7 +42,7 @@ module _ (b : Bus) (I : Inv b) (p : Place) where
       taken x y l = plain-good b (call-of.Read p) I (p .0) l (say ev.Read x y 0) (withInput Empty (here b (p .0)))
           (plainly (here b (p .0)) (withInput Empty (here b (p .0))) refl refl refl refl (λ x. refl)) (λ j x. no (cc)) refl refl refl refl
 
-      go : p .0 < b .count → (s : Slot) → Good b (call-of.Read p) (touch (atnOf b) b (p .0) (read s (b .standing) (here b (p .0))))
+      go : p .0 < b .count → (s : Slot) → Good b (call-of.Read p) (follow (atnOf b) b (p .0) (read s (b .standing) (here b (p .0))))
       go l Empty = plain-good b (call-of.Read p) I (p .0) l (say ev.None 0 false 0) (here b (p .0)) (plainly (here b (p .0)) (here b (p .0)) refl refl refl refl (λ x. x)) (λ j x. no (cc)) refl refl refl refl
       go l (Full v e) = taken v e l
 

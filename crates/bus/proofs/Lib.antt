@@ -48,3 +48,4 @@ pub mod Ledger
 pub mod Built
 pub mod Theorem
 pub mod Reached
+pub mod Seats

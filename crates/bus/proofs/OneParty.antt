@@ -16,8 +16,9 @@ use Rattle.bus.specs.Types.ev
 use Rattle.bus.specs.Types.call-of
 use Rattle.bus.specs.Words.{isAccepted}
 use Rattle.bus.specs.Record.{here, stands}
-use Rattle.bus.specs.Settling.{say, touch}
+use Rattle.bus.specs.Settling.{say}
 use Rattle.bus.specs.Step.{does, stay}
+use Rattle.bus.specs.Following.{touch}
 use Rattle.bus.specs.Machine.{judged}
 use Rattle.bus.specs.Delivery.{isPut, isEnd, isTake, isHostPut, isWrite, wrote}
 use Rattle.bus.proofs.Invariant.{look, Inv, atnOf}

@@ -17,12 +17,13 @@ use Rattle.party.proofs.Logic.{no, test, cond-elim}
 use Rattle.party.proofs.Roles.{nameOf, Single, hear-single, hear-name, hear-passes}
 use Rattle.parties.specs.Places.{at, total, otherTalker}
 use Rattle.parties.proofs.Places.{upd, at-set, total-set, first-found}
-use Rattle.bus.specs.Types.{Place, Party, Role, Idle, Active, Sgns, At, Command, Nothing, Byte, Bus}
+use Rattle.bus.specs.Types.{Place, Party, Role, Idle, Active, Sgns, At, Command, Nothing, Byte, Bus, After}
 use Rattle.bus.specs.Types.ev
 use Rattle.bus.specs.Types.call-of
 use Rattle.bus.specs.Record.{here, lines}
 use Rattle.bus.specs.Settling.{say}
-use Rattle.bus.specs.Step.{heardBy, pass}
+use Rattle.bus.specs.Step.{heardBy}
+use Rattle.bus.specs.Following.{pass}
 use Rattle.bus.specs.Delivery.{held}
 use Rattle.bus.proofs.Invariant.{busy, active-busy, waits, look, Inv}
 use Rattle.bus.proofs.Change.{upd-all, Unique, upd-unique, same-apart}
@@ -98,15 +99,15 @@ module _ (b : Bus) (I : Inv b) (p : Place) (l : p .0 < b .count) (v : ℕ) (e : 
         let k = set-held b I (p .0) l old in
         let g = ap heldBytes (getD-set-other (b .parties) (p .0) j old idle other) in omega arith
 
-    passed-good : (z : Bool) → Good b (call-of.Step p) (pass b (p .0) (record { said = say ev.Ended v e 0; passes = z; party = heard; standing = Nothing }) j)
+    passed-good : (z : After) → Good b (call-of.Step p) (pass b (p .0) (record { said = say ev.Ended v e 0; after = z; party = heard; standing = Nothing }) j)
     unfolding old new heard
     passed-good z = pass-good b I p Command (heldBytes (here b (p .0)) + heldBytes (here b j)) v e (set (set (b .parties) (p .0) old) j new)
         (length-set (set (b .parties) (p .0) old) j new ∙ set-len b I (p .0) old)
         (subst (λ (w : ℕ → Party). Raw (b .count) w) (sym both-set) raw)
         es nd dropped
 
-  pub pass-to : (z : Bool) (j : Place) → otherTalker (b .count) (p .0) (b .parties) ≡ At j
-      → Good b (call-of.Step p) (pass b (p .0) (record { said = say ev.Ended v e 0; passes = z; party = withSource Sgns (heardBy v (here b (p .0))); standing = Nothing }) (j .0))
+  pub pass-to : (z : After) (j : Place) → otherTalker (b .count) (p .0) (b .parties) ≡ At j
+      → Good b (call-of.Step p) (pass b (p .0) (record { said = say ev.Ended v e 0; after = z; party = withSource Sgns (heardBy v (here b (p .0))); standing = Nothing }) (j .0))
   unfolding heard
   pass-to z j h = let r = first-found 0 (b .count) (λ x. x .role .talk) (set (b .parties) (p .0) idle) j h in
       let k : j .0 ≡ r .0 = omega (arith, r .1 .0) in passed-good (j .0) (rw k (r .1 .1)) z

@@ -40,15 +40,8 @@ placed-suc (suc n) [] k h m = absurd (not-suc-le-zero h)
 placed-suc (suc n) (a ∷ xs) zero h m = refl
 placed-suc (suc n) (a ∷ xs) (suc k) h m = ap (_∷_ (newborn (address a))) (placed-suc n xs k (le-of-suc-le-suc h) (le-of-suc-le-suc m))
 
-placed-take : (n : ℕ) (xs : List ℕ) → placed n (take n xs) ≡ placed n xs
-placed-take zero xs = refl
-placed-take (suc n) [] = refl
-placed-take (suc n) (a ∷ xs) = ap (_∷_ (newborn (address a))) (placed-take n xs)
-
 pub place-turn : (xs : List ℕ) (k : ℕ) {out : List Party} {p : Party} → k < length xs → k < 15 → out ≡ placed 15 (take k xs) → p ≡ newborn (address (getD xs k 0)) → set out k p ≡ placed 15 (take (k + 1) xs)
 place-turn xs k h m i e = rw (add-one k, i, e) (placed-suc 15 xs k h m)
 
-pub place-done : (xs : List ℕ) (n k : ℕ) {out : List Party} → n ≡ within (length xs) → k ≤ n → n ≤ k → out ≡ placed 15 (take k xs) → out ≡ placed 15 xs
-place-done xs n k w l m i = let z : k ≡ n = omega arith in i ∙ ap (λ (j : ℕ). placed 15 (take j xs)) (z ∙ w) ∙ test (ltb (length xs) 15)
-    (λ e. rw e (ap (placed 15) (take-all (length xs) xs (omega arith))))
-    (λ e. rw e (placed-take 15 xs))
+pub place-done : (xs : List ℕ) (k : ℕ) {out : List Party} → k ≤ length xs → length xs ≤ k → out ≡ placed 15 (take k xs) → out ≡ placed 15 xs
+place-done xs k l m i = i ∙ ap (placed 15) (take-all k xs m)

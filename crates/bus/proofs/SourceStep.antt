@@ -15,12 +15,14 @@ use Rattle.party.proofs.Logic.{no, cond-elim}
 use Rattle.party.proofs.Settled.{source-case}
 use Rattle.parties.specs.Places.{place, otherTalker}
 use Rattle.parties.proofs.Places.{some-none}
-use Rattle.bus.specs.Types.{Place, Party, Source, Sids, Sgns, Sdys, Strs, Slot, Empty, Full, Kind, Command, Data, Status, Event, Found, Nowhere, At, Standing, Nothing, Byte, Bus, Effect}
+use Rattle.bus.specs.Types.{Place, Party, Source, Sids, Sgns, Sdys, Strs, Slot, Empty, Full, Kind, Command, Data, Status, Event, Found, Nowhere, At, Standing, Nothing, Byte, Bus, After, Effect}
 use Rattle.bus.specs.Types.ev
+use Rattle.bus.specs.Types.after
 use Rattle.bus.specs.Types.call-of
 use Rattle.bus.specs.Record.{here, lines, ofCommand}
-use Rattle.bus.specs.Settling.{say, touch}
-use Rattle.bus.specs.Step.{does, stay, move, put, noacc, ready, heardBy, ended, sourceStep, handOn, turn}
+use Rattle.bus.specs.Settling.{say}
+use Rattle.bus.specs.Step.{does, stay, move, put, noacc, ready, heardBy, passTo, ended, sourceStep}
+use Rattle.bus.specs.Following.{touch, follow}
 use Rattle.bus.specs.Delivery.{isPut, isEnd, isTake, isHostPut}
 use Rattle.bus.proofs.Invariant.{sentBy, look, look-idle, Pre, Inv, atnOf, quiet}
 use Rattle.bus.proofs.Putting.{Fit, put-pre, end-pre, nothing-stands, look-on}
@@ -49,10 +51,13 @@ atn-unpolled t p e = rw e
 
 module _ (b : Bus) (I : Inv b) (p : Place) (l : p .0 < b .count) (so : isSource (atnOf b) (here b (p .0)) ≡ true) where
   G : Effect → Type 0
-  G e = Good b (call-of.Step p) (turn (atnOf b) b (p .0) e)
+  G e = Good b (call-of.Step p) (follow (atnOf b) b (p .0) e)
 
   kind : Kind
   kind = kindOf (isActive (here b (p .0))) (isPolled (atnOf b) (here b (p .0)))
+
+  talker : Found
+  talker = otherTalker (b .count) (p .0) (b .parties)
 
   -- a source that is not active talks with ATN false
   atn-off : isActive (here b (p .0)) ≡ false → atnOf b ≡ false
@@ -143,9 +148,9 @@ module _ (b : Bus) (I : Inv b) (p : Place) (l : p .0 < b .count) (so : isSource 
     plain-end : (k : Kind) (v : ℕ) (e : Bool) → ofCommand k ≡ false → b .standing ≡ Byte p k v e → Good b (call-of.Step p) (touch (atnOf b) b (p .0) (does (say ev.Ended v e 0) (withSource Sgns (here b (p .0))) Nothing))
     plain-end k v e n es = over-good (withSource Sgns (here b (p .0))) k v e es (sym (look-idle (b .standing) (rw es n) (p .0) (here b (p .0)))) refl refl refl refl refl
 
-    command-end : (v : ℕ) (e : Bool) → b .standing ≡ Byte p Command v e → G (ended (Byte p Command v e) (here b (p .0)))
-    unfolding G
-    command-end v e es = go (passesControl (meaning v)) refl
+    command-end : (v : ℕ) (e : Bool) → b .standing ≡ Byte p Command v e → G (ended talker (Byte p Command v e) (here b (p .0)))
+    unfolding G talker
+    command-end v e es = go talker refl (passesControl (meaning v)) refl
       where
         heard : Party
         heard = withSource Sgns (heardBy v (here b (p .0)))
@@ -153,31 +158,28 @@ module _ (b : Bus) (I : Inv b) (p : Place) (l : p .0 < b .count) (so : isSource 
         own : look (b .standing) (p .0) (here b (p .0)) ≡ hear (meaning v) (here b (p .0) .role)
         own = look-on (b .standing) (p .0) (here b (p .0)) (rw (mine, es)) ∙ rw es refl
 
-        just : (z : Bool) → Good b (call-of.Step p) (touch (atnOf b) b (p .0) (record { said = say ev.Ended v e 0; passes = z; party = heard; standing = Nothing }))
+        just : (z : After) → Good b (call-of.Step p) (touch (atnOf b) b (p .0) (record { said = say ev.Ended v e 0; after = z; party = heard; standing = Nothing }))
         just z = over-good heard Command v e es (sym own) refl refl refl refl refl
 
-        go : (z : Bool) → passesControl (meaning v) ≡ z → Good b (call-of.Step p) (turn (atnOf b) b (p .0) (record { said = say ev.Ended v e 0; passes = z; party = heard; standing = Nothing }))
-        go false z = just false
-        go true z = found (otherTalker (b .count) (p .0) (b .parties)) refl
-          where
-            found : (x : Found) → otherTalker (b .count) (p .0) (b .parties) ≡ x → Good b (call-of.Step p) (handOn (atnOf b) b (p .0) (record { said = say ev.Ended v e 0; passes = true; party = heard; standing = Nothing }) x)
-            found Nowhere h = just true
-            found (At j) h = pass-to b I p l v e es nd z true j h
+        go : (x : Found) → talker ≡ x → (z : Bool) → passesControl (meaning v) ≡ z → G (record { said = say ev.Ended v e 0; after = passTo z x; party = heard; standing = Nothing })
+        go Nowhere h z ez = just after.Settle
+        go (At j) h false ez = just after.Settle
+        go (At j) h true ez = pass-to b I p l v e es nd ez (after.Pass j) j h
 
-    ended-good : (x : Standing) → b .standing ≡ x → G (ended x (here b (p .0)))
+    ended-good : (x : Standing) → b .standing ≡ x → G (ended talker x (here b (p .0)))
     unfolding G
     ended-good Nothing es = subst (λ (x : Standing). Good b (call-of.Step p) (touch (atnOf b) b (p .0) (stay x (here b (p .0))))) es (stay-good b I p l)
     ended-good (Byte s Command v e) es = command-end v e (its-sender s Command v e es)
     ended-good (Byte s Data v e) es = plain-end Data v e refl (its-sender s Data v e es)
     ended-good (Byte s Status v e) es = plain-end Status v e refl (its-sender s Status v e es)
 
-  by-state : (x : Source) → here b (p .0) .source ≡ x → G (sourceStep x (offer (isPolled (atnOf b) (here b (p .0))) (here b (p .0))) kind (lines b) (b .standing) p (here b (p .0)))
+  by-state : (x : Source) → here b (p .0) .source ≡ x → G (sourceStep x (offer (isPolled (atnOf b) (here b (p .0))) (here b (p .0))) kind (lines b) talker (b .standing) p (here b (p .0)))
   by-state Sids ex = stays
   by-state Sgns ex = cond-elim G (isFull (offer (isPolled (atnOf b) (here b (p .0))) (here b (p .0)))) (λ _. moved Sdys (λ e. no (cc)) (λ e. no (cc))) (λ _. stays)
   by-state Sdys ex = ready-good ex (offer (isPolled (atnOf b) (here b (p .0))) (here b (p .0))) refl
   by-state Strs ex = cond-elim G (lines b .ndac) (λ _. stays) (λ nd. ended-good ex nd (b .standing) refl)
 
   pub source-good : (x : Source) → here b (p .0) .source ≡ x
-      → Good b (call-of.Step p) (turn (atnOf b) b (p .0) (sourceStep x (offer (isPolled (atnOf b) (here b (p .0))) (here b (p .0))) (kindOf (isActive (here b (p .0))) (isPolled (atnOf b) (here b (p .0)))) (lines b) (b .standing) p (here b (p .0))))
-  unfolding G kind
+      → Good b (call-of.Step p) (follow (atnOf b) b (p .0) (sourceStep x (offer (isPolled (atnOf b) (here b (p .0))) (here b (p .0))) (kindOf (isActive (here b (p .0))) (isPolled (atnOf b) (here b (p .0)))) (lines b) (otherTalker (b .count) (p .0) (b .parties)) (b .standing) p (here b (p .0))))
+  unfolding G kind talker
   source-good x ex = by-state x ex

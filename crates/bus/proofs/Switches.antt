@@ -22,8 +22,9 @@ use Rattle.bus.specs.Types.ev
 use Rattle.bus.specs.Types.call-of
 use Rattle.bus.specs.Words.{isAccepted}
 use Rattle.bus.specs.Record.{here, stands, lines}
-use Rattle.bus.specs.Settling.{say, touch}
+use Rattle.bus.specs.Settling.{say}
 use Rattle.bus.specs.Step.{does}
+use Rattle.bus.specs.Following.{touch}
 use Rattle.bus.specs.Calls.{joining}
 use Rattle.bus.specs.Refusals.{ofSwitch, isOn, listenRefusal, talkRefusal, refusal}
 use Rattle.bus.specs.Machine.{accepted}

@@ -1,19 +1,17 @@
 -- The host's calls, once they are accepted (document 01, "The host's calls"). Each is an effect on the party that it names.
 -- Assumes nothing.
-use Prim.Native.Nat.{ℕ, _+_}
+use Prim.Native.Nat.{ℕ}
 use mathlib.Core.Bool.{Bool, false, cond}
-use lib.ListN.{set}
 use Rattle.party.specs.Parts.{heldBytes, withFlags, withRole, withAcceptor, withHeld, withInput, withRequest}
 use Rattle.party.specs.Driving.{isActive}
-use Rattle.party.specs.Clearing.{wiped, cleared, clearDrops}
+use Rattle.party.specs.Clearing.{wiped, cleared}
 use Rattle.party.specs.Settling.{changeControl}
-use Rattle.parties.specs.Places.{each, total}
 use Rattle.parties.specs.Lines.{linesByte}
-use Rattle.bus.specs.Types.{Party, Acceptor, Aids, Anrs, Awns, Control, Active, Slot, Empty, Full, Lines, Standing, Bus, Answer, Effect}
+use Rattle.bus.specs.Types.{Party, Acceptor, Aids, Anrs, Awns, Control, Active, Slot, Empty, Full, Lines, Standing, Effect}
 use Rattle.bus.specs.Types.ev
-use Rattle.bus.specs.Record.{here}
-use Rattle.bus.specs.Settling.{say, settle, attend, touch, alarm}
-use Rattle.bus.specs.Step.{does, stay}
+use Rattle.bus.specs.Types.after
+use Rattle.bus.specs.Settling.{say}
+use Rattle.bus.specs.Step.{does, then, stay}
 
 -- "An accepted host call other than read and lines has event none": an effect that drops d held bytes and says nothing more.
 abbrev pub quiet : ℕ → Standing → Party → Effect
@@ -49,7 +47,7 @@ talkOnly on st p = quiet 0 st (withRole (withFlags on (p .role .listen) (p .role
 
 -- "Take control: standby to active. Go to standby: active to standby." Attention follows, and what is held is dropped.
 abbrev pub controlled : Control → Standing → Party → Effect
-controlled c st p = quiet (heldBytes p) st (changeControl c p)
+controlled c st p = then after.Attend (quiet (heldBytes p) st (changeControl c p))
 
 -- "Drop: the held byte, if there is one, goes (dropped)."
 abbrev pub drop : Standing → Party → Effect
@@ -59,22 +57,17 @@ drop st p = quiet (heldBytes p) st (withHeld Empty p)
 abbrev pub resetAcceptor : Lines → Acceptor
 resetAcceptor l = cond (l .atn) (joining (l .dav)) Aids
 
-abbrev pub resetAs : Bool → Lines → Bus → ℕ → Party → Answer
-resetAs active l b i p =
-    cond active
-    (alarm b i (quiet (heldBytes p) (b .standing) (wiped p)))
-    (touch (l .atn) b i (quiet (heldBytes p) (b .standing) (withAcceptor (resetAcceptor l) (wiped p))))
+-- "Reset: flags off, control idle, held byte dropped, data-in emptied, poll register kept": attention follows if it was active.
+abbrev pub resetAs : Bool → Lines → Standing → Party → Effect
+resetAs active l st p = cond active (then after.Attend (quiet (heldBytes p) st (wiped p))) (quiet (heldBytes p) st (withAcceptor (resetAcceptor l) (wiped p)))
 
-abbrev pub reset : Lines → Bus → ℕ → Party → Answer
-reset l b i p = resetAs (isActive p) l b i p
+abbrev pub reset : Lines → Standing → Party → Effect
+reset l st p = resetAs (isActive p) l st p
 
--- "the system party active, its held byte dropped"
-abbrev pub clear : Bus → ℕ → Answer
-clear b i = attend b
-    (say ev.None 0 false (total (b .count) clearDrops (b .parties) + heldBytes (cleared (here b i))))
-    (set (each (b .count) cleared (b .parties)) i (changeControl Active (cleared (here b i))))
-    (b .standing)
+-- "the system party active, its held byte dropped"; what is dropped in all is said when every party is cleared.
+abbrev pub clear : Standing → Party → Effect
+clear st p = then after.Clear (quiet 0 st (changeControl Active (cleared p)))
 
 -- "The event lines carries the lines answer with END 0".
-abbrev pub linesAnswer : Lines → Bus → Answer
-linesAnswer l b = settle (l .atn) b (say ev.Lines (linesByte l) false 0) (b .parties) (b .standing)
+abbrev pub tell : Lines → Standing → Party → Effect
+tell l st p = does (say ev.Lines (linesByte l) false 0) p st

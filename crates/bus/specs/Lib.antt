@@ -5,6 +5,7 @@ pub mod Record
 pub mod Settling
 pub mod Step
 pub mod Calls
+pub mod Following
 pub mod Refusals
 pub mod Machine
 pub mod Examples

@@ -1,10 +1,11 @@
 -- The machine of document 01, from its front: what each call answers, and the bus after it, for every bus and every call.
 --
 --   refusal     Refusals.antt   which refusal a call meets, in document 01's order
---   accepted    below           what it does if it meets none
---     step      Step.antt       the source step, the acceptor step, TCT
---     the rest  Calls.antt      the host's calls
---     touch, alarm  Settling.antt   how a call ends: attention, settling
+--   accepted    below           if it meets none: an effect on its party, and what follows on that
+--     effectOf  Step.antt       a step: the source step, the acceptor step
+--               Calls.antt      the host's calls
+--     follow    Following.antt  settling, attention, control that goes on, interface clear
+--               Settling.antt   attention and settling themselves
 --   build       Record.antt     the bus record, its lines, building
 --   one party   crates/party/specs (what it drives, hears, offers and settles to), crates/parties/specs (some party, every party)
 --   the table   crates/message/specs (what a command byte means)
@@ -12,29 +13,37 @@
 -- Assumes nothing.
 use mathlib.Core.Bool.{cond}
 use mathlib.Core.List.{List, [], _∷_}
-use Rattle.bus.specs.Types.{Standby, Active, Lines, Bus, Answer, Call, Refusal}
+use Prim.Native.Nat.{ℕ}
+use Rattle.bus.specs.Types.{Party, Standby, Active, Lines, Found, Standing, Bus, Answer, Call, Refusal, Effect}
+use Rattle.parties.specs.Places.{otherTalker}
 use Rattle.bus.specs.Types.call-of
 use Rattle.bus.specs.Words.{isAccepted}
 use Rattle.bus.specs.Record.{here, lines, refuse}
-use Rattle.bus.specs.Settling.{touch, alarm}
-use Rattle.bus.specs.Refusals.{isOn, refusal}
-use Rattle.bus.specs.Step.{step}
-use Rattle.bus.specs.Calls.{write, read, pollRegister, listenOnly, talkOnly, controlled, drop, reset, clear, linesAnswer}
+use Rattle.bus.specs.Refusals.{placeOf, isOn, refusal}
+use Rattle.bus.specs.Step.{effect}
+use Rattle.bus.specs.Calls.{write, read, pollRegister, listenOnly, talkOnly, controlled, drop, reset, clear, tell}
+use Rattle.bus.specs.Following.{follow}
 
--- What an accepted call does, with the lines as it finds them.
+-- What an accepted call does to its party p and to what stands, with the lines as it finds them; f is the first party beside p that talks.
+abbrev pub effectOf : Lines → Found → Standing → Party → Call → Effect
+effectOf l f st p (call-of.Step i) = effect l f st i p
+effectOf l f st p (call-of.Write i v e) = write v (isOn e) st p
+effectOf l f st p (call-of.Read i) = read (p .input) st p
+effectOf l f st p (call-of.PollRegister i v) = pollRegister v st p
+effectOf l f st p (call-of.ListenOnly i on) = listenOnly (isOn on) l st p
+effectOf l f st p (call-of.TalkOnly i on) = talkOnly (isOn on) st p
+effectOf l f st p (call-of.TakeControl i) = controlled Active st p
+effectOf l f st p (call-of.GoToStandby i) = controlled Standby st p
+effectOf l f st p (call-of.InterfaceClear i) = clear st p
+effectOf l f st p (call-of.Reset i) = reset l st p
+effectOf l f st p (call-of.Drop i) = drop st p
+effectOf l f st p call-of.Lines = tell l st p
+
+abbrev pub acceptedAt : ℕ → Lines → Bus → Call → Answer
+acceptedAt i l b c = follow (l .atn) b i (effectOf l (otherTalker (b .count) i (b .parties)) (b .standing) (here b i) c)
+
 abbrev pub accepted : Lines → Bus → Call → Answer
-accepted l b (call-of.Step p) = step l b (p .0)
-accepted l b (call-of.Write p v e) = touch (l .atn) b (p .0) (write v (isOn e) (b .standing) (here b (p .0)))
-accepted l b (call-of.Read p) = touch (l .atn) b (p .0) (read (here b (p .0) .input) (b .standing) (here b (p .0)))
-accepted l b (call-of.PollRegister p v) = touch (l .atn) b (p .0) (pollRegister v (b .standing) (here b (p .0)))
-accepted l b (call-of.ListenOnly p on) = touch (l .atn) b (p .0) (listenOnly (isOn on) l (b .standing) (here b (p .0)))
-accepted l b (call-of.TalkOnly p on) = touch (l .atn) b (p .0) (talkOnly (isOn on) (b .standing) (here b (p .0)))
-accepted l b (call-of.TakeControl p) = alarm b (p .0) (controlled Active (b .standing) (here b (p .0)))
-accepted l b (call-of.GoToStandby p) = alarm b (p .0) (controlled Standby (b .standing) (here b (p .0)))
-accepted l b (call-of.InterfaceClear p) = clear b (p .0)
-accepted l b (call-of.Reset p) = reset l b (p .0) (here b (p .0))
-accepted l b (call-of.Drop p) = touch (l .atn) b (p .0) (drop (b .standing) (here b (p .0)))
-accepted l b call-of.Lines = linesAnswer l b
+accepted l b c = acceptedAt (placeOf c .0) l b c
 
 -- A refused call leaves the bus as it found it.
 abbrev pub judged : Refusal → Bus → Answer → Answer

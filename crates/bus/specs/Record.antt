@@ -7,7 +7,7 @@ use lib.Dec.{ltb, eqb}
 use lib.ListN.{length}
 use Rattle.message.specs.Meaning.{address}
 use Rattle.party.specs.Parts.{idle, newborn}
-use Rattle.parties.specs.Places.{place, at}
+use Rattle.parties.specs.Places.{place, at, slot}
 use Rattle.parties.specs.Lines.{linesOf}
 use Rattle.bus.specs.Types.{Place, Party, Kind, Command, Data, Status, Lines, Standing, Nothing, Byte, Bus, Answer, Refusal}
 use Rattle.bus.specs.Types.ruling
@@ -34,6 +34,11 @@ ofCommand Status = false
 abbrev pub sendsCommand : ℕ → Standing → Bool
 sendsCommand i Nothing = false
 sendsCommand i (Byte s k v e) = cond (ofCommand k) (eqb i (s .0)) false
+
+-- The place of the sender, and the first where nothing stands.
+abbrev pub senderSlot : Standing → ℕ
+senderSlot Nothing = 0
+senderSlot (Byte s k v e) = slot (s .0)
 
 abbrev pub lines : Bus → Lines
 lines b = linesOf (b .count) (b .parties) (hasEnd (b .standing))

@@ -1,19 +1,34 @@
 -- Which refusal a call meets (document 01, the table of refusals and its order: 1, values, then 4 to 9).
 -- Assumes nothing.
 use Prim.Native.Nat.{ℕ}
-use mathlib.Core.Bool.{Bool, true, false, cond}
+use mathlib.Core.Bool.{Bool, true, false, cond, _&&_}
 use lib.Dec.{ltb, eqb}
 use Rattle.party.specs.Parts.{isFull}
 use Rattle.party.specs.Driving.{isActive}
-use Rattle.parties.specs.Places.{otherTalker, isFound}
-use Rattle.bus.specs.Types.{Place, Control, Idle, Standby, Active, Lines, Bus, Call, Refusal}
+use Rattle.parties.specs.Places.{place, otherTalker, isFound}
+use Rattle.bus.specs.Types.{Place, Party, Control, Idle, Standby, Active, Lines, Bus, Call, Refusal}
 use Rattle.bus.specs.Types.ruling
 use Rattle.bus.specs.Types.call-of
 use Rattle.bus.specs.Record.{here, sendsCommand}
 
+-- The party that a call names. Lines names none; it reads and changes nothing of the one here.
+abbrev pub placeOf : Call → Place
+placeOf (call-of.Step p) = p
+placeOf (call-of.Write p v e) = p
+placeOf (call-of.Read p) = p
+placeOf (call-of.PollRegister p v) = p
+placeOf (call-of.ListenOnly p on) = p
+placeOf (call-of.TalkOnly p on) = p
+placeOf (call-of.TakeControl p) = p
+placeOf (call-of.GoToStandby p) = p
+placeOf (call-of.InterfaceClear p) = p
+placeOf (call-of.Reset p) = p
+placeOf (call-of.Drop p) = p
+placeOf call-of.Lines = place 0
+
 -- "NOPARTY: no such party"
-abbrev pub ofParty : Bus → Place → Refusal → Refusal
-ofParty b p r = cond (ltb (p .0) (b .count)) r ruling.NoParty
+abbrev pub ofParty : Bool → Refusal → Refusal
+ofParty known r = cond known r ruling.NoParty
 
 -- "BADVALUE: .. switch or END not 0 or 1"
 abbrev pub ofSwitch : ℕ → Refusal → Refusal
@@ -39,50 +54,52 @@ talkRefusal on listen atn another = cond on (cond listen ruling.Role (cond atn r
 abbrev pub standbyRefusal : Bool → Bool → Refusal
 standbyRefusal active sends = cond active (cond sends ruling.Standing ruling.Accepted) ruling.Role
 
--- A call that is refused only where there is no such party.
-abbrev pub partyRefusal : Bus → Place → Refusal
-partyRefusal b p = ofParty b p ruling.Accepted
-
+-- What each call meets once its party is there, or Accepted. It reads the party p, ATN, whether another party talks, whether p sends a
+-- standing command, and whether p is the system party.
+abbrev pub own : Party → Bool → Bool → Bool → Bool → Call → Refusal
+own p atn another sends chief (call-of.Step i) = ruling.Accepted
 -- "FULL: write with a byte held"
-abbrev pub writeRefusal : Bus → Place → ℕ → Refusal
-writeRefusal b p e = ofParty b p (ofSwitch e (cond (isFull (here b (p .0) .held)) ruling.Full ruling.Accepted))
-
+own p atn another sends chief (call-of.Write i v e) = ofSwitch e (cond (isFull (p .held)) ruling.Full ruling.Accepted)
 -- "EMPTY: read with no data-in"
-abbrev pub readRefusal : Bus → Place → Refusal
-readRefusal b p = ofParty b p (cond (isFull (here b (p .0) .input)) ruling.Accepted ruling.Empty)
-
-abbrev pub listenOnlyRefusal : Bus → Place → ℕ → Refusal
-listenOnlyRefusal b p on = ofParty b p (ofSwitch on (listenRefusal (isOn on) (here b (p .0) .role .talk)))
-
-abbrev pub talkOnlyRefusal : Lines → Bus → Place → ℕ → Refusal
-talkOnlyRefusal l b p on = ofParty b p (ofSwitch on (talkRefusal (isOn on) (here b (p .0) .role .listen) (l .atn) (isFound (otherTalker (b .count) (p .0) (b .parties)))))
-
+own p atn another sends chief (call-of.Read i) = cond (isFull (p .input)) ruling.Accepted ruling.Empty
+own p atn another sends chief (call-of.PollRegister i v) = ruling.Accepted
+own p atn another sends chief (call-of.ListenOnly i on) = ofSwitch on (listenRefusal (isOn on) (p .role .talk))
+own p atn another sends chief (call-of.TalkOnly i on) = ofSwitch on (talkRefusal (isOn on) (p .role .listen) atn another)
 -- "ROLE: take control not in standby"
-abbrev pub takeControlRefusal : Bus → Place → Refusal
-takeControlRefusal b p = ofParty b p (cond (inStandby (here b (p .0) .control)) ruling.Accepted ruling.Role)
-
-abbrev pub goToStandbyRefusal : Bus → Place → Refusal
-goToStandbyRefusal b p = ofParty b p (standbyRefusal (isActive (here b (p .0))) (sendsCommand (p .0) (b .standing)))
-
+own p atn another sends chief (call-of.TakeControl i) = cond (inStandby (p .control)) ruling.Accepted ruling.Role
+own p atn another sends chief (call-of.GoToStandby i) = standbyRefusal (isActive p) sends
 -- "ROLE: .. clear not by system party"
-abbrev pub clearRefusal : Bus → Place → Refusal
-clearRefusal b p = ofParty b p (cond (eqb (p .0) (b .system .0)) ruling.Accepted ruling.Role)
-
+own p atn another sends chief (call-of.InterfaceClear i) = cond chief ruling.Accepted ruling.Role
 -- "STANDING: .. reset by the sender of a standing command"
-abbrev pub resetRefusal : Bus → Place → Refusal
-resetRefusal b p = ofParty b p (cond (sendsCommand (p .0) (b .standing)) ruling.Standing ruling.Accepted)
+own p atn another sends chief (call-of.Reset i) = cond sends ruling.Standing ruling.Accepted
+own p atn another sends chief (call-of.Drop i) = ruling.Accepted
+own p atn another sends chief call-of.Lines = ruling.Accepted
 
--- The refusal of each call, or Accepted. "Order: .. 1, values, then 4 to 9."
+-- Is the party that a call names there? "lines (no party)"
+abbrev pub isKnown : Call → Bool → Bool
+isKnown (call-of.Step p) inside = inside
+isKnown (call-of.Write p v e) inside = inside
+isKnown (call-of.Read p) inside = inside
+isKnown (call-of.PollRegister p v) inside = inside
+isKnown (call-of.ListenOnly p on) inside = inside
+isKnown (call-of.TalkOnly p on) inside = inside
+isKnown (call-of.TakeControl p) inside = inside
+isKnown (call-of.GoToStandby p) inside = inside
+isKnown (call-of.InterfaceClear p) inside = inside
+isKnown (call-of.Reset p) inside = inside
+isKnown (call-of.Drop p) inside = inside
+isKnown call-of.Lines inside = true
+
+-- "Order: .. 1, values, then 4 to 9."
+abbrev pub judge : Bool → Party → Bool → Bool → Bool → Bool → Call → Refusal
+judge inside p atn another sends chief c = ofParty (isKnown c inside) (own p atn another sends chief c)
+
+-- Has a place a party? There are fifteen places.
+abbrev pub isInside : ℕ → ℕ → Bool
+isInside count i = ltb i 15 && ltb i count
+
+abbrev pub refusalAt : ℕ → Lines → Bus → Call → Refusal
+refusalAt i l b c = judge (isInside (b .count) i) (here b i) (l .atn) (isFound (otherTalker (b .count) i (b .parties))) (sendsCommand i (b .standing)) (eqb i (b .system .0)) c
+
 abbrev pub refusal : Lines → Bus → Call → Refusal
-refusal l b (call-of.Step p) = partyRefusal b p
-refusal l b (call-of.Write p v e) = writeRefusal b p e
-refusal l b (call-of.Read p) = readRefusal b p
-refusal l b (call-of.PollRegister p v) = partyRefusal b p
-refusal l b (call-of.ListenOnly p on) = listenOnlyRefusal b p on
-refusal l b (call-of.TalkOnly p on) = talkOnlyRefusal l b p on
-refusal l b (call-of.TakeControl p) = takeControlRefusal b p
-refusal l b (call-of.GoToStandby p) = goToStandbyRefusal b p
-refusal l b (call-of.InterfaceClear p) = clearRefusal b p
-refusal l b (call-of.Reset p) = resetRefusal b p
-refusal l b (call-of.Drop p) = partyRefusal b p
-refusal l b call-of.Lines = ruling.Accepted
+refusal l b c = refusalAt (placeOf c .0) l b c

@@ -1,15 +1,15 @@
--- Attention and settling of the whole bus, and the two ways in which a call of one party ends (document 01, "Attention and settling").
+-- Attention and settling of the whole bus (document 01, "Attention and settling").
 -- Assumes nothing.
 use Prim.Native.Nat.{ℕ}
-use mathlib.Core.Bool.{Bool, false, not, cond}
+use mathlib.Core.Bool.{Bool, true, false, not, cond}
+use lib.Dec.{ltb}
 use mathlib.Core.List.{List}
-use lib.ListN.{set}
 use Rattle.party.specs.Parts.{one}
 use Rattle.party.specs.Driving.{isActive}
 use Rattle.party.specs.Sending.{isSource}
 use Rattle.party.specs.Settling.{attended, settled}
 use Rattle.parties.specs.Places.{at, some, each}
-use Rattle.bus.specs.Types.{Party, Event, Standing, Nothing, Byte, Bus, Answer, Said, Effect}
+use Rattle.bus.specs.Types.{Party, Event, Standing, Nothing, Byte, Bus, Answer, Said}
 use Rattle.bus.specs.Types.ruling
 use Rattle.bus.specs.Record.{stands}
 
@@ -37,6 +37,11 @@ abbrev pub deserted : Bool → List Party → Standing → Bool
 deserted atn ps Nothing = false
 deserted atn ps (Byte s k v e) = not (isSource atn (at ps (s .0)))
 
+-- The same, where it is known whether the party at the sender's place is a source. Who is at no place is none.
+abbrev pub left : Bool → Standing → Bool
+left source Nothing = false
+left source (Byte s k v e) = cond (ltb (s .0) 15) (not source) true
+
 -- Settling alone, with ATN as it is: no call changes who is active unless attention follows.
 abbrev pub settle : Bool → Bus → Said → List Party → Standing → Answer
 settle atn b s ps st = settleAs atn (deserted atn ps st) b s ps st
@@ -47,10 +52,3 @@ attendAs atn b s ps st = settleAs atn (stands st) b s (each (b .count) (attended
 
 abbrev pub attend : Bus → Said → List Party → Standing → Answer
 attend b s ps st = attendAs (some (b .count) isActive ps) b s ps st
-
--- A call that changes party i: without attention, and with it ("a call that changes which party is active (or none)").
-abbrev pub touch : Bool → Bus → ℕ → Effect → Answer
-touch atn b i e = settle atn b (e .said) (set (b .parties) i (e .party)) (e .standing)
-
-abbrev pub alarm : Bus → ℕ → Effect → Answer
-alarm b i e = attend b (e .said) (set (b .parties) i (e .party)) (e .standing)

@@ -1,23 +1,25 @@
--- A step of a party (document 01, "A step of party p"). It reads the lines, what stands and the party; only the end of TCT reads another party.
+-- A step of a party (document 01, "A step of party p"): its effect, from the lines, what stands and the party.
 -- Assumes nothing.
-use Prim.Native.Nat.{ℕ, _+_}
-use mathlib.Core.Bool.{Bool, false, not, cond, _&&_, _||_}
-use lib.ListN.{set}
+use Prim.Native.Nat.{ℕ}
+use mathlib.Core.Bool.{Bool, false, not, cond, _||_}
 use Rattle.message.specs.Meaning.{meaning}
-use Rattle.party.specs.Parts.{isFull, heldBytes, withRole, withSource, withAcceptor, withInput}
+use Rattle.party.specs.Parts.{isFull, withRole, withSource, withAcceptor, withInput}
 use Rattle.party.specs.Driving.{isActive}
 use Rattle.party.specs.Hearing.{hear, hearEvent, passesControl}
 use Rattle.party.specs.Sending.{isSource, isPolled, offer, kindOf, endOf, putEvent, afterPut, afterNoacc, noaccDrops}
-use Rattle.party.specs.Settling.{changeControl}
-use Rattle.parties.specs.Places.{place, otherTalker}
-use Rattle.bus.specs.Types.{Place, Party, Source, Sids, Sgns, Sdys, Strs, Acceptor, Aids, Anrs, Acrs, Acds, Awns, Idle, Active, Slot, Empty, Full, Kind, Lines, Found, Nowhere, At, Standing, Nothing, Byte, Bus, Answer, Said, Effect}
+use Rattle.bus.specs.Types.{Place, Party, Source, Sids, Sgns, Sdys, Strs, Acceptor, Aids, Anrs, Acrs, Acds, Awns, Slot, Empty, Full, Kind, Lines, Found, Nowhere, At, Standing, Nothing, Byte, Said, After, Effect}
 use Rattle.bus.specs.Types.ev
-use Rattle.bus.specs.Record.{here, ofCommand}
-use Rattle.bus.specs.Settling.{say, attend, touch}
+use Rattle.bus.specs.Types.after
+use Rattle.bus.specs.Record.{ofCommand}
+use Rattle.bus.specs.Settling.{say}
 
--- An effect on party p by which no control goes on.
+-- An effect on party p on which settling follows, and no more.
 abbrev pub does : Said → Party → Standing → Effect
-does s p st = record { said = s; passes = false; party = p; standing = st }
+does s p st = record { said = s; after = after.Settle; party = p; standing = st }
+
+-- The same effect, with something else to follow.
+abbrev pub then : After → Effect → Effect
+then x e = record { said = e .said; after = x; party = e .party; standing = e .standing }
 
 -- No event; "moved (a step that changed the party's source or acceptor state and has no other event)".
 abbrev pub stay : Standing → Party → Effect
@@ -45,29 +47,34 @@ ready (Full v e) k l st i p = cond (l .nrfd) (stay st p) (cond (l .ndac) (put k 
 abbrev pub heardBy : ℕ → Party → Party
 heardBy v p = withRole (hear (meaning v) (p .role)) p
 
+-- "TCT does nothing when heard; when it ends, control goes to the talk-on party other than the sender, if there is one"
+abbrev pub passTo : Bool → Found → After
+passTo passes Nowhere = after.Settle
+passTo passes (At j) = cond passes (after.Pass j) after.Settle
+
 -- "event ended, to SGNS, and a command is then heard by its own sender too"
-abbrev pub endedByte : Kind → ℕ → Bool → Party → Effect
-endedByte k v e p = record {
+abbrev pub endedByte : Found → Kind → ℕ → Bool → Party → Effect
+endedByte f k v e p = record {
   said = say ev.Ended v e 0;
-  passes = ofCommand k && passesControl (meaning v);
+  after = cond (ofCommand k) (passTo (passesControl (meaning v)) f) after.Settle;
   party = withSource Sgns (cond (ofCommand k) (heardBy v p) p);
   standing = Nothing;
 }
 
-abbrev pub ended : Standing → Party → Effect
-ended Nothing p = stay Nothing p
-ended (Byte s k v e) p = endedByte k v e p
+abbrev pub ended : Found → Standing → Party → Effect
+ended f Nothing p = stay Nothing p
+ended f (Byte s k v e) p = endedByte f k v e p
 
 -- "SGNS: with a byte on offer .. to SDYS."
 abbrev pub offering : Bool → Standing → Party → Effect
 offering full st p = cond full (move st (withSource Sdys p)) (stay st p)
 
--- "STRS: NDAC false, event ended ..; else stay." Settling leaves no source in SIDS.
-abbrev pub sourceStep : Source → Slot → Kind → Lines → Standing → Place → Party → Effect
-sourceStep Sids o k l st i p = stay st p
-sourceStep Sgns o k l st i p = offering (isFull o) st p
-sourceStep Sdys o k l st i p = ready o k l st i p
-sourceStep Strs o k l st i p = cond (l .ndac) (stay st p) (ended st p)
+-- "STRS: NDAC false, event ended ..; else stay." Settling leaves no source in SIDS. f is the talk-on party other than this one.
+abbrev pub sourceStep : Source → Slot → Kind → Lines → Found → Standing → Place → Party → Effect
+sourceStep Sids o k l f st i p = stay st p
+sourceStep Sgns o k l f st i p = offering (isFull o) st p
+sourceStep Sdys o k l f st i p = ready o k l st i p
+sourceStep Strs o k l f st i p = cond (l .ndac) (stay st p) (ended f st p)
 
 -- Acceptor step.
 
@@ -97,29 +104,11 @@ acceptorStep Acds l st p = move st (withAcceptor Awns p)
 acceptorStep Awns l st p = cond (l .dav) (stay st p) (move st (withAcceptor Anrs p))
 
 -- "A source takes the source step, any other party the acceptor step."
-abbrev pub sourceEffect : Lines → Standing → Place → Party → Effect
-sourceEffect l st i p = sourceStep (p .source) (offer (isPolled (l .atn) p) p) (kindOf (isActive p) (isPolled (l .atn) p)) l st i p
+abbrev pub sourceEffect : Lines → Found → Standing → Place → Party → Effect
+sourceEffect l f st i p = sourceStep (p .source) (offer (isPolled (l .atn) p) p) (kindOf (isActive p) (isPolled (l .atn) p)) l f st i p
 
-abbrev pub effectAs : Bool → Lines → Standing → Place → Party → Effect
-effectAs source l st i p = cond source (sourceEffect l st i p) (acceptorStep (p .acceptor) l st p)
+abbrev pub acceptorEffect : Lines → Standing → Party → Effect
+acceptorEffect l st p = acceptorStep (p .acceptor) l st p
 
-abbrev pub effect : Lines → Standing → Place → Party → Effect
-effect l st i p = effectAs (isSource (l .atn) p) l st i p
-
--- "when it ends, control goes to the talk-on party other than the sender, if there is one: that party is active, the sender idle, event passed"
-abbrev pub pass : Bus → ℕ → Effect → ℕ → Answer
-pass b i e j = attend b
-    (say ev.Passed (e .said .byte) (e .said .end) (heldBytes (e .party) + heldBytes (here b j)))
-    (set (set (b .parties) i (changeControl Idle (e .party))) j (changeControl Active (here b j)))
-    (e .standing)
-
-abbrev pub handOn : Bool → Bus → ℕ → Effect → Found → Answer
-handOn atn b i e Nowhere = touch atn b i e
-handOn atn b i e (At j) = pass b i e (j .0)
-
-abbrev pub turn : Bool → Bus → ℕ → Effect → Answer
-turn atn b i e = cond (e .passes) (handOn atn b i e (otherTalker (b .count) i (b .parties))) (touch atn b i e)
-
--- With the lines as the call finds them.
-abbrev pub step : Lines → Bus → ℕ → Answer
-step l b i = turn (l .atn) b i (effect l (b .standing) (place i) (here b i))
+abbrev pub effect : Lines → Found → Standing → Place → Party → Effect
+effect l f st i p = cond (isSource (l .atn) p) (sourceEffect l f st i p) (acceptorEffect l st p)

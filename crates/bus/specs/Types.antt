@@ -20,6 +20,7 @@ pub use Rattle.party.specs.declared.Role.{Role}
 pub use Rattle.party.specs.declared.Request.{Request}
 pub use Rattle.party.specs.declared.Party.{Party}
 pub use Rattle.parties.specs.declared.Lines.{Lines}
+pub use Rattle.parties.specs.declared.Scan.{Scan}
 pub use Rattle.parties.specs.declared.Found.{Found}
 pub use Rattle.parties.specs.declared.Found.the-variants.{Nowhere, At}
 pub use Rattle.bus.specs.declared.Standing.{Standing}
@@ -31,4 +32,6 @@ pub use Rattle.bus.specs.declared.Answer.{Answer}
 pub use Rattle.bus.specs.declared.Call.{Call}
 pub use Rattle.bus.specs.declared.Call.the-variants as call-of
 pub use Rattle.bus.specs.declared.Said.{Said}
+pub use Rattle.bus.specs.declared.After.{After}
+pub use Rattle.bus.specs.declared.After.the-variants as after
 pub use Rattle.bus.specs.declared.Effect.{Effect}

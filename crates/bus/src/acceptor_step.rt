@@ -1,6 +1,6 @@
 // The acceptor step.
 ghost use mathlib.Core.Path.{_≡_};
-ghost use Rattle.bus.specs.Step.{taking, hearing, take, readying, acceptorStep};
+ghost use Rattle.bus.specs.Step.{hearing, take, readying, acceptorEffect};
 use crate::Effect;
 use crate::Said;
 use crate::Standing;
@@ -12,14 +12,6 @@ use party::Event;
 use party::Party;
 use party::Slot;
 use party::hearing::hear_event;
-
-// Data is taken into data-in.
-fn takes(v: u8, e: bool, st: Standing, p: Party) -> Effect
-    ensures { λ r. ⌜ r ≡ taking v e st p ⌝ }
-{
-    let party = p.with_input(Slot::Full(v, e)).with_acceptor(Acceptor::Acds);
-    Effect::does(Said::say(Event::Took, v, e, 0), party, st)
-}
 
 // A command is taken by hearing it.
 fn hears(v: u8, e: bool, st: Standing, p: Party) -> Effect
@@ -34,8 +26,8 @@ fn hears(v: u8, e: bool, st: Standing, p: Party) -> Effect
     )
 }
 
-// DAV is true: what stands is taken.
-fn takes_standing(atn: bool, st: Standing, p: Party) -> Effect
+// DAV is true: what stands is taken, and data goes into data-in.
+fn takes(atn: bool, st: Standing, p: Party) -> Effect
     ensures { λ r. ⌜ r ≡ take atn st p ⌝ }
 {
     match st {
@@ -49,12 +41,15 @@ fn takes_standing(atn: bool, st: Standing, p: Party) -> Effect
             if atn {
                 hears(value, end, st, p)
             } else {
-                takes(value, end, st, p)
+                let party = p.with_input(Slot::Full(value, end))
+                    .with_acceptor(Acceptor::Acds);
+                Effect::does(Said::say(Event::Took, value, end, 0), party, st)
             }
         }
     }
 }
 
+// A party in ANRS is ready for a command, and for data if data-in is empty.
 fn from_anrs(atn: bool, full: bool, st: Standing, p: Party) -> Effect
     ensures { λ r. ⌜ r ≡ readying atn full st p ⌝ }
 {
@@ -67,17 +62,16 @@ fn from_anrs(atn: bool, full: bool, st: Standing, p: Party) -> Effect
     }
 }
 
-pub fn step_by(acceptor: Acceptor, l: Lines, st: Standing, p: Party) -> Effect
-    ensures { λ r. ⌜ r ≡ acceptorStep acceptor l st p ⌝ }
+pub fn acceptor_step(l: Lines, st: Standing, p: Party) -> Effect
+    ensures { λ r. ⌜ r ≡ acceptorEffect l st p ⌝ }
 {
+    let acceptor = p.acceptor;
+    let input = p.input;
     match acceptor {
         Acceptor::Aids => Effect::stay(st, p),
-        Acceptor::Anrs => {
-            let input = p.input;
-            from_anrs(l.atn, input.is_full(), st, p)
-        }
+        Acceptor::Anrs => from_anrs(l.atn, input.is_full(), st, p),
         Acceptor::Acrs => if l.dav {
-            takes_standing(l.atn, st, p)
+            takes(l.atn, st, p)
         } else {
             Effect::stay(st, p)
         },

@@ -1,9 +1,7 @@
 // Building a bus.
 ghost use mathlib.Core.Path.{_≡_};
-ghost use mathlib.Core.Bool.{not, _||_};
 ghost use Prim.Native.Nat.{_≤_};
 ghost use lib.ListN.{length};
-ghost use Rattle.parties.specs.Places.{within};
 ghost use Rattle.bus.specs.Record.{placed, built, anyOver30, isAmong, twoEqual, badBuild, build, refuse};
 ghost use Rattle.bus.specs.Types.ruling;
 use crate::Answer;
@@ -11,14 +9,9 @@ use crate::Bus;
 use crate::Refusal;
 use crate::Standing;
 use message::Address;
+use parties::every::or;
 use party::Party;
 use party::Place;
-
-fn either(a: bool, b: bool) -> bool
-    ensures { λ r. ⌜ r ≡ (a || b) ⌝ }
-{
-    if a { true } else { b }
-}
 
 fn any_over_30(addresses: &[u8]) -> bool
     ensures { λ r. ⌜ r ≡ anyOver30 (now (addresses .entry)) ⌝ }
@@ -26,7 +19,7 @@ fn any_over_30(addresses: &[u8]) -> bool
     let mut found = false;
     let mut i: usize = 0;
     while i < addresses.len() {
-        found = either(found, 30 < addresses[i]);
+        found = or(found, 30 < addresses[i]);
         i = i + 1;
     }
     found
@@ -38,7 +31,7 @@ fn is_among(a: u8, addresses: &[u8]) -> bool
     let mut found = false;
     let mut i: usize = 0;
     while i < addresses.len() {
-        found = either(found, a == addresses[i]);
+        found = or(found, a == addresses[i]);
         i = i + 1;
     }
     found
@@ -52,23 +45,9 @@ fn two_equal(addresses: &[u8]) -> bool
     while i < addresses.len() {
         let a = addresses[i];
         i = i + 1;
-        found = either(found, is_among(a, &addresses[i..]));
+        found = or(found, is_among(a, &addresses[i..]));
     }
     found
-}
-
-fn bad_addresses(over: bool, equal: bool, known: bool) -> bool
-    ensures { λ r. ⌜ r ≡ (over || equal || not known) ⌝ }
-{
-    if over {
-        true
-    } else if equal {
-        true
-    } else if known {
-        false
-    } else {
-        true
-    }
 }
 
 // Is this no bus to be built?
@@ -82,24 +61,24 @@ fn is_bad(addresses: &[u8], system: Place) -> bool
     if 15 < n {
         return true;
     }
+    if any_over_30(addresses) {
+        return true;
+    }
+    if two_equal(addresses) {
+        return true;
+    }
     let i = system.0 as usize;
-    bad_addresses(any_over_30(addresses), two_equal(addresses), i < n)
-}
-
-fn at_most_15(n: usize) -> usize
-    ensures { λ r. ⌜ (r ≡ within n) × (r ≤ 15) × (r ≤ n) ⌝ }
-{
-    if n < 15 { n } else { 15 }
+    if i < n { false } else { true }
 }
 
 // A party for each address, then the idle party.
 fn parties_at(addresses: &[u8]) -> [Party; 15]
+    requires { ⌜ length (now addresses) ≤ 15 ⌝ }
     ensures { λ r. ⌜ r ≡ placed 15 (now (addresses .entry)) ⌝ }
 {
-    let n = at_most_15(addresses.len());
     let mut out = [Party::IDLE; 15];
     let mut k: usize = 0;
-    while k < n {
+    while k < addresses.len() {
         let p = Party::build(Address(addresses[k]));
         out[k] = p;
         k = k + 1;

@@ -1,70 +1,110 @@
-// The calls on a bus: each reads the lines once, meets its refusal or does its work, and hands the bus back in its answer.
+// The calls on a bus: each goes through the parties once, meets its refusal or has its effect, and hands the bus back in its answer.
 ghost use mathlib.Core.Path.{_≡_};
-ghost use mathlib.Core.Bool.{cond};
-ghost use Rattle.bus.specs.Record.{refuse};
-ghost use Rattle.bus.specs.Machine.{accepted, call};
+ghost use Rattle.bus.specs.Step.{effect};
+ghost use Rattle.bus.specs.Machine.{effectOf, call};
+use crate::After;
 use crate::Answer;
 use crate::Bus;
 use crate::Call;
-use crate::Refusal;
-use crate::host_calls::dropping;
-use crate::host_calls::in_control;
-use crate::host_calls::listening;
-use crate::host_calls::registered;
-use crate::host_calls::taken_out;
-use crate::host_calls::talking;
-use crate::host_calls::written;
-use crate::rulings::is_on;
-use parties::Lines;
+use crate::Effect;
+use crate::Said;
+use crate::Standing;
+use crate::acceptor_step::acceptor_step;
+use crate::host_calls;
+use crate::refusals::is_inside;
+use crate::refusals::is_on;
+use crate::refusals::judged;
+use crate::source_step::source_step;
+use parties::Scan;
+use parties::every::scan;
+use parties::every::slot;
 use party::Control;
+use party::Event;
+use party::Party;
 use party::Place;
+use party::Slot;
+
+// A source takes the source step, any other party the acceptor step.
+fn stepped(s: Scan, st: Standing, i: Place, p: Party) -> Effect
+    ensures { λ r. ⌜ r ≡ effect (s .lines) (s .talker) st i p ⌝ }
+{
+    let l = s.lines;
+    let talker = s.talker;
+    if p.is_source(l.atn) {
+        source_step(l, talker, st, i, p)
+    } else {
+        acceptor_step(l, st, p)
+    }
+}
+
+// What an accepted call does to its party p.
+fn effect_of(c: Call, s: Scan, st: Standing, p: Party) -> Effect
+    ensures { λ r. ⌜ r ≡ effectOf (s .lines) (s .talker) st p c ⌝ }
+{
+    let l = s.lines;
+    let input = p.input;
+    match c {
+        Call::Step(i) => stepped(s, st, i, p),
+        Call::Write(_, v, e) => Effect::quiet(0, st, p.with_held(Slot::Full(v, is_on(e)))),
+        Call::Read(_) => host_calls::taken_out(input, st, p),
+        Call::PollRegister(_, v) => host_calls::registered(v, st, p),
+        Call::ListenOnly(_, on) => host_calls::listening(is_on(on), l, st, p),
+        Call::TalkOnly(_, on) => host_calls::talking(is_on(on), st, p),
+        Call::TakeControl(_) => host_calls::in_control(Control::Active, st, p),
+        Call::GoToStandby(_) => host_calls::in_control(Control::Standby, st, p),
+        Call::InterfaceClear(_) => host_calls::cleared(st, p),
+        Call::Reset(_) => host_calls::reset(l, st, p),
+        Call::Drop(_) => Effect::quiet(p.held_bytes(), st, p.with_held(Slot::Empty)),
+        Call::Lines => Effect::does(Said::say(Event::Lines, l.byte(), false, 0), p, st),
+    }
+}
 
 impl Bus {
-    fn accepted(self, l: Lines, c: Call) -> Answer
-        ensures { λ r. ⌜ r ≡ accepted l self c ⌝ }
+    // Any operation other than build.
+    pub fn call(mut self, c: Call) -> Answer
+        ensures { λ r. ⌜ r ≡ call self c ⌝ }
     {
+        let i = c.place();
+        let at = slot(i);
+        let ps = self.parties;
         let st = self.standing;
-        match c {
-            Call::Step(p) => self.stepped(l, p),
-            Call::Write(p, v, e) => self.touch(l.atn, p, written(v, is_on(e), st, self.at(p))),
-            Call::Read(p) => {
-                let q = self.at(p);
-                let input = q.input;
-                self.touch(l.atn, p, taken_out(input, st, q))
+        let system = self.system;
+        let s = scan(ps, self.count, at, st.has_end());
+        let l = s.lines;
+        let talker = s.talker;
+        let p = ps[at];
+        let inside = is_inside(i, self.count);
+        let sends = st.is_command_of(i);
+        let r = judged(
+            c,
+            inside,
+            p,
+            l.atn,
+            talker.is_found(),
+            sends,
+            i.0 == system.0,
+        );
+        if r.is_accepted() {
+            let e = effect_of(c, s, st, p);
+            let after = e.after;
+            match after {
+                After::Settle => {
+                    let said = e.said;
+                    let party = e.party;
+                    let standing = e.standing;
+                    self.parties[at] = party;
+                    let k = standing.sender_slot();
+                    let sender = self.parties[k];
+                    let off = standing.is_left(sender.is_source(l.atn));
+                    self.settle(l.atn, off, said, standing)
+                }
+                After::Pass(j) => self.pass(i, e, j),
+                After::Attend => self.alarm(i, e),
+                After::Clear => self.clear(i, e),
             }
-            Call::PollRegister(p, v) => self.touch(l.atn, p, registered(v, st, self.at(p))),
-            Call::ListenOnly(p, on) => self.touch(
-                l.atn,
-                p,
-                listening(is_on(on), l, st, self.at(p)),
-            ),
-            Call::TalkOnly(p, on) => self.touch(l.atn, p, talking(is_on(on), st, self.at(p))),
-            Call::TakeControl(p) => self.alarm(p, in_control(Control::Active, st, self.at(p))),
-            Call::GoToStandby(p) => self.alarm(p, in_control(Control::Standby, st, self.at(p))),
-            Call::InterfaceClear(p) => self.cleared(p),
-            Call::Reset(p) => self.been_reset(l, p, self.at(p)),
-            Call::Drop(p) => self.touch(l.atn, p, dropping(st, self.at(p))),
-            Call::Lines => self.lines_told(l),
-        }
-    }
-
-    fn judged(self, ok: bool, r: Refusal, l: Lines, c: Call) -> Answer
-        ensures { λ a. ⌜ a ≡ cond ok (accepted l self c) (refuse r self) ⌝ }
-    {
-        if ok {
-            self.accepted(l, c)
         } else {
             self.refuse(r)
         }
-    }
-
-    // Any operation other than build.
-    pub fn call(self, c: Call) -> Answer
-        ensures { λ r. ⌜ r ≡ call self c ⌝ }
-    {
-        let l = self.line_states();
-        let r = self.refusal_of(l, c);
-        self.judged(r.is_accepted(), r, l, c)
     }
 
     // Party p has its turn.

@@ -1,7 +1,9 @@
 // What a call does to its own party and to what stands.
 ghost use mathlib.Core.Path.{_≡_};
 ghost use Rattle.bus.specs.Settling.{say};
-ghost use Rattle.bus.specs.Step.{does, stay, move};
+ghost use Rattle.bus.specs.Step.{does, then, stay, move};
+ghost use Rattle.bus.specs.Calls.{quiet};
+use crate::After;
 use crate::Effect;
 use crate::Said;
 use crate::Standing;
@@ -22,12 +24,31 @@ impl Said {
 }
 
 impl Effect {
+    // Settling follows, and no more.
     pub fn does(said: Said, party: Party, standing: Standing) -> Effect
         ensures { λ r. ⌜ r ≡ does said party standing ⌝ }
     {
         Effect {
             said,
-            passes: false,
+            after: After::Settle,
+            party,
+            standing,
+        }
+    }
+
+    // The same effect, with something else to follow.
+    pub fn then(self, after: After) -> Effect
+        ensures { λ r. ⌜ r ≡ then after self ⌝ }
+    {
+        let Effect {
+            said,
+            after: _,
+            party,
+            standing,
+        } = self;
+        Effect {
+            said,
+            after,
             party,
             standing,
         }
@@ -45,5 +66,12 @@ impl Effect {
         ensures { λ r. ⌜ r ≡ move standing party ⌝ }
     {
         Effect::does(Said::say(Event::Moved, 0, false, 0), party, standing)
+    }
+
+    // A host call that says nothing but how many held bytes were dropped.
+    pub fn quiet(dropped: u8, standing: Standing, party: Party) -> Effect
+        ensures { λ r. ⌜ r ≡ quiet dropped standing party ⌝ }
+    {
+        Effect::does(Said::say(Event::None, 0, false, dropped), party, standing)
     }
 }

@@ -1,36 +1,17 @@
-// What the host's calls do, once they are accepted.
+// What the host's calls do to their own party, once they are accepted.
 ghost use mathlib.Core.Path.{_≡_};
-ghost use Rattle.bus.specs.Calls.{quiet, write, read, pollRegister, joining, listenAcceptor, listenOnly, talkOnly, controlled, drop, resetAcceptor, resetAs, reset, clear, linesAnswer};
-use crate::Answer;
-use crate::Bus;
+ghost use Rattle.bus.specs.Calls.{read, pollRegister, listenAcceptor, listenOnly, talkOnly, controlled, resetAcceptor, reset, clear};
+use crate::After;
 use crate::Effect;
 use crate::Said;
 use crate::Standing;
-use parties::Change;
 use parties::Lines;
-use parties::every::change_all;
-use parties::every::clear_drops;
-use parties::every::party_at;
-use parties::every::with_party;
 use party::Acceptor;
 use party::Control;
 use party::Event;
 use party::Party;
-use party::Place;
 use party::Request;
 use party::Slot;
-
-fn quietly(dropped: u8, st: Standing, p: Party) -> Effect
-    ensures { λ r. ⌜ r ≡ quiet dropped st p ⌝ }
-{
-    Effect::does(Said::say(Event::None, 0, false, dropped), p, st)
-}
-
-pub fn written(v: u8, e: bool, st: Standing, p: Party) -> Effect
-    ensures { λ r. ⌜ r ≡ write v e st p ⌝ }
-{
-    quietly(0, st, p.with_held(Slot::Full(v, e)))
-}
 
 pub fn taken_out(input: Slot, st: Standing, p: Party) -> Effect
     ensures { λ r. ⌜ r ≡ read input st p ⌝ }
@@ -55,23 +36,23 @@ pub fn registered(v: u8, st: Standing, p: Party) -> Effect
         saved: v,
         service,
     };
-    quietly(0, st, p.with_request(request))
+    Effect::quiet(0, st, p.with_request(request))
 }
 
-// The acceptor of who joins.
-fn joins(dav: bool) -> Acceptor
-    ensures { λ r. ⌜ r ≡ joining dav ⌝ }
-{
-    if dav { Acceptor::Awns } else { Acceptor::Anrs }
-}
-
+// The acceptor of who is told to listen or not: who joins while a byte stands waits for its end.
 fn listener(on: bool, was: bool, l: Lines, a: Acceptor) -> Acceptor
     ensures { λ r. ⌜ r ≡ listenAcceptor on was l a ⌝ }
 {
     if l.atn {
         a
     } else if on {
-        if was { a } else { joins(l.dav) }
+        if was {
+            a
+        } else if l.dav {
+            Acceptor::Awns
+        } else {
+            Acceptor::Anrs
+        }
     } else {
         Acceptor::Aids
     }
@@ -83,81 +64,52 @@ pub fn listening(on: bool, l: Lines, st: Standing, p: Party) -> Effect
     let role = p.role;
     let acceptor = p.acceptor;
     let q = p.with_acceptor(listener(on, role.listen, l, acceptor));
-    quietly(0, st, q.with_role(role.with_flags(role.talk, on)))
+    Effect::quiet(0, st, q.with_role(role.with_flags(role.talk, on)))
 }
 
 pub fn talking(on: bool, st: Standing, p: Party) -> Effect
     ensures { λ r. ⌜ r ≡ talkOnly on st p ⌝ }
 {
     let role = p.role;
-    quietly(0, st, p.with_role(role.with_flags(on, role.listen)))
+    Effect::quiet(0, st, p.with_role(role.with_flags(on, role.listen)))
 }
 
 pub fn in_control(control: Control, st: Standing, p: Party) -> Effect
     ensures { λ r. ⌜ r ≡ controlled control st p ⌝ }
 {
-    quietly(p.held_bytes(), st, p.change_control(control))
-}
-
-pub fn dropping(st: Standing, p: Party) -> Effect
-    ensures { λ r. ⌜ r ≡ drop st p ⌝ }
-{
-    quietly(p.held_bytes(), st, p.with_held(Slot::Empty))
+    Effect::quiet(p.held_bytes(), st, p.change_control(control)).then(After::Attend)
 }
 
 fn reset_acceptor(l: Lines) -> Acceptor
     ensures { λ r. ⌜ r ≡ resetAcceptor l ⌝ }
 {
-    if l.atn { joins(l.dav) } else { Acceptor::Aids }
+    if l.atn {
+        if l.dav {
+            Acceptor::Awns
+        } else {
+            Acceptor::Anrs
+        }
+    } else {
+        Acceptor::Aids
+    }
 }
 
-impl Bus {
-    fn reset_as(self, active: bool, l: Lines, i: Place, p: Party) -> Answer
-        ensures { λ r. ⌜ r ≡ resetAs active l self (i .0) p ⌝ }
-    {
-        let st = self.standing;
-        if active {
-            self.alarm(i, quietly(p.held_bytes(), st, p.wiped()))
-        } else {
-            self.touch(
-                l.atn,
-                i,
-                quietly(
-                    p.held_bytes(),
-                    st,
-                    p.wiped().with_acceptor(reset_acceptor(l)),
-                ),
-            )
-        }
+// Attention follows the reset of an active party.
+pub fn reset(l: Lines, st: Standing, p: Party) -> Effect
+    ensures { λ r. ⌜ r ≡ reset l st p ⌝ }
+{
+    let dropped = p.held_bytes();
+    let wiped = p.wiped();
+    if p.is_active() {
+        Effect::quiet(dropped, st, wiped).then(After::Attend)
+    } else {
+        Effect::quiet(dropped, st, wiped.with_acceptor(reset_acceptor(l)))
     }
+}
 
-    pub fn been_reset(self, l: Lines, i: Place, p: Party) -> Answer
-        ensures { λ r. ⌜ r ≡ reset l self (i .0) p ⌝ }
-    {
-        self.reset_as(p.is_active(), l, i, p)
-    }
-
-    pub fn cleared(self, i: Place) -> Answer
-        ensures { λ r. ⌜ r ≡ clear self (i .0) ⌝ }
-    {
-        let ps = self.parties;
-        let st = self.standing;
-        let chief = party_at(ps, i).cleared();
-        let dropped = clear_drops(ps, self.count) + chief.held_bytes();
-        let said = Said::say(Event::None, 0, false, dropped);
-        let all = change_all(ps, self.count, Change::Clear);
-        self.attend(
-            said,
-            with_party(all, i, chief.change_control(Control::Active)),
-            st,
-        )
-    }
-
-    pub fn lines_told(self, l: Lines) -> Answer
-        ensures { λ r. ⌜ r ≡ linesAnswer l self ⌝ }
-    {
-        let ps = self.parties;
-        let st = self.standing;
-        self.settle(l.atn, Said::say(Event::Lines, l.byte(), false, 0), ps, st)
-    }
+// The system party as an interface clear leaves it.
+pub fn cleared(st: Standing, p: Party) -> Effect
+    ensures { λ r. ⌜ r ≡ clear st p ⌝ }
+{
+    Effect::quiet(0, st, p.cleared().change_control(Control::Active)).then(After::Clear)
 }

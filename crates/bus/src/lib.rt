@@ -8,11 +8,11 @@ pub mod acceptor_step;
 pub mod building;
 pub mod calls;
 pub mod effects;
+pub mod endings;
 pub mod host_calls;
-pub mod rulings;
-pub mod settling;
+pub mod refusals;
 pub mod source_step;
-pub mod step;
+pub mod stands;
 
 // Document 01's standing byte: its sender, kind, value and END. It stands exactly while its sender is in STRS.
 pub enum Standing {
@@ -84,11 +84,18 @@ pub struct Said {
     pub dropped: u8,
 }
 
-// What a call does to its own party and to what stands, before attention and settling.
+// What follows on a call's own changes: settling alone; control that goes on to a party; attention; an interface clear.
+pub enum After {
+    Settle,
+    Pass(Place),
+    Attend,
+    Clear,
+}
+
+// What a call does to its own party and to what stands, and what is to follow.
 pub struct Effect {
     pub said: Said,
-    // Control goes on, if another party talks.
-    pub passes: bool,
+    pub after: After,
     pub party: Party,
     pub standing: Standing,
 }

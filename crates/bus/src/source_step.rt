@@ -1,12 +1,13 @@
 // The source step.
 ghost use mathlib.Core.Path.{_≡_};
-ghost use mathlib.Core.Bool.{cond, _&&_};
-ghost use Rattle.bus.specs.Record.{ofCommand};
-ghost use Rattle.bus.specs.Step.{put, noacc, ready, heardBy, endedByte, ended, offering, sourceStep};
+ghost use Rattle.bus.specs.Types.{Command};
+ghost use Rattle.bus.specs.Step.{put, noacc, ready, heardBy, passTo, endedByte, ended, sourceEffect};
+use crate::After;
 use crate::Effect;
 use crate::Said;
 use crate::Standing;
 use message::meaning_of;
+use parties::Found;
 use parties::Lines;
 use party::Event;
 use party::Kind;
@@ -63,16 +64,6 @@ fn from_sdys(offer: Slot, kind: Kind, l: Lines, st: Standing, i: Place, p: Party
     }
 }
 
-fn is_command(kind: Kind) -> bool
-    ensures { λ r. ⌜ r ≡ ofCommand kind ⌝ }
-{
-    match kind {
-        Kind::Command => true,
-        Kind::Data => false,
-        Kind::Status => false,
-    }
-}
-
 // The party once it has heard a command.
 pub fn heard_by(v: u8, p: Party) -> Party
     ensures { λ r. ⌜ r ≡ heardBy v p ⌝ }
@@ -81,37 +72,32 @@ pub fn heard_by(v: u8, p: Party) -> Party
     p.with_role(role.heard(meaning_of(v)))
 }
 
-// A sender hears its own command, and no other byte.
-fn own_heard(command: bool, v: u8, p: Party) -> Party
-    ensures { λ r. ⌜ r ≡ cond command (heardBy v p) p ⌝ }
+// Who is in control once TCT has ended: the other talker, if there is one.
+fn pass_to(passes: bool, talker: Found) -> After
+    ensures { λ r. ⌜ r ≡ passTo passes talker ⌝ }
 {
-    if command { heard_by(v, p) } else { p }
-}
-
-fn both(a: bool, b: bool) -> bool
-    ensures { λ r. ⌜ r ≡ (a && b) ⌝ }
-{
-    if a { b } else { false }
-}
-
-fn byte_ended(kind: Kind, v: u8, e: bool, p: Party) -> Effect
-    ensures { λ r. ⌜ r ≡ endedByte kind v e p ⌝ }
-{
-    let command = is_command(kind);
-    let party = own_heard(command, v, p).with_source(Source::Sgns);
-    let passes = both(command, hearing::passes_control(meaning_of(v)));
-    let said = Said::say(Event::Ended, v, e, 0);
-    Effect {
-        said,
-        passes,
-        party,
-        standing: Standing::Nothing,
+    match talker {
+        Found::Nowhere => After::Settle,
+        Found::At(j) => if passes {
+            After::Pass(j)
+        } else {
+            After::Settle
+        },
     }
 }
 
+// A command has ended, and is heard by its own sender too.
+fn command_ended(talker: Found, v: u8, e: bool, p: Party) -> Effect
+    ensures { λ r. ⌜ r ≡ endedByte talker Command v e p ⌝ }
+{
+    let party = heard_by(v, p).with_source(Source::Sgns);
+    let after = pass_to(hearing::passes_control(meaning_of(v)), talker);
+    Effect::does(Said::say(Event::Ended, v, e, 0), party, Standing::Nothing).then(after)
+}
+
 // NDAC is false: what stands has ended.
-fn over(st: Standing, p: Party) -> Effect
-    ensures { λ r. ⌜ r ≡ ended st p ⌝ }
+fn over(talker: Found, st: Standing, p: Party) -> Effect
+    ensures { λ r. ⌜ r ≡ ended talker st p ⌝ }
 {
     match st {
         Standing::Nothing => Effect::stay(Standing::Nothing, p),
@@ -120,39 +106,37 @@ fn over(st: Standing, p: Party) -> Effect
             kind,
             value,
             end,
-        } => byte_ended(kind, value, end, p),
+        } => {
+            let said = Said::say(Event::Ended, value, end, 0);
+            let party = p.with_source(Source::Sgns);
+            match kind {
+                Kind::Command => command_ended(talker, value, end, p),
+                Kind::Data => Effect::does(said, party, Standing::Nothing),
+                Kind::Status => Effect::does(said, party, Standing::Nothing),
+            }
+        }
     }
 }
 
-fn from_sgns(full: bool, st: Standing, p: Party) -> Effect
-    ensures { λ r. ⌜ r ≡ offering full st p ⌝ }
+pub fn source_step(l: Lines, talker: Found, st: Standing, i: Place, p: Party) -> Effect
+    ensures { λ r. ⌜ r ≡ sourceEffect l talker st i p ⌝ }
 {
-    if full {
-        Effect::moved(st, p.with_source(Source::Sdys))
-    } else {
-        Effect::stay(st, p)
-    }
-}
-
-pub fn step_by(
-    source: Source,
-    offer: Slot,
-    kind: Kind,
-    l: Lines,
-    st: Standing,
-    i: Place,
-    p: Party,
-) -> Effect
-    ensures { λ r. ⌜ r ≡ sourceStep source offer kind l st i p ⌝ }
-{
+    let source = p.source;
+    let polled = p.is_polled(l.atn);
+    let offer = p.offers(polled);
+    let kind = Kind::of(p.is_active(), polled);
     match source {
         Source::Sids => Effect::stay(st, p),
-        Source::Sgns => from_sgns(offer.is_full(), st, p),
+        Source::Sgns => if offer.is_full() {
+            Effect::moved(st, p.with_source(Source::Sdys))
+        } else {
+            Effect::stay(st, p)
+        },
         Source::Sdys => from_sdys(offer, kind, l, st, i, p),
         Source::Strs => if l.ndac {
             Effect::stay(st, p)
         } else {
-            over(st, p)
+            over(talker, st, p)
         },
     }
 }

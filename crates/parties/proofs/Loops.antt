@@ -1,19 +1,21 @@
 -- The laws of the loops over the places: one place more, and as many places as there are.
 -- Assumes nothing.
 use mathlib.Core.Path.{_≡_, refl, sym, ap, _∙_}
-use mathlib.Core.Bool.{Bool, true, false, cond, _||_}
+use mathlib.Core.Bool.{Bool, true, false, not, cond, _&&_, _||_}
 use mathlib.Core.List.{List, [], _∷_, map}
 use Prim.Native.Nat.{ℕ, zero, suc, _+_, _≤_, _<_}
 use native.Mathlib.Omega.{arith}
 use native.Mathlib.Numerals.{add-one}
-use native.Mathlib.Nat.{not-suc-le-zero, le-of-suc-le-suc, add-zero, add-suc, suc-add}
-use lib.ListN.{length, set, length-map}
-use lib.Dec.{ltb}
-use borrow.Author.Tests.{ltb-false}
+use native.Mathlib.Nat.{not-suc-le-zero, le-of-suc-le-suc, zero-add, add-zero, add-suc, suc-add}
+use lib.ListN.{length, set, length-map, length-set}
+use lib.Seq.{getD-set-same, getD-set-other}
+use lib.Dec.{ltb, eqb}
+use borrow.Author.Tests.{ltb-false, eqb-true, eqb-false}
+use Rattle.party.specs.Parts.{idle}
 use Rattle.party.specs.Driving.{isActive, drivesDav, drivesNrfd, drivesNdac, drivesSrq}
 use Rattle.party.proofs.Logic.{test}
 use Rattle.parties.specs.Types.{Party, Found, Nowhere, At}
-use Rattle.parties.specs.Places.{place, at, some, each, total, firstFrom, within, seek}
+use Rattle.parties.specs.Places.{place, at, some, each, total, firstFrom, talks, otherTalker, within, seek}
 use Rattle.parties.specs.Lines.{linesOf, driven}
 use Rattle.parties.proofs.Places.{each-past}
 
@@ -96,12 +98,6 @@ first-all i (suc n) f (p ∷ ps) h = ap (λ (x : Found). cond (f p) (At (place i
 pub within-same : {A : Type 0} (g : ℕ → A) (n : ℕ) → (15 ≤ n → g n ≡ g 15) → g (within n) ≡ g n
 within-same g n h = test (ltb n 15) (λ e. rw e refl) (λ e. rw e (sym (h (ltb-false n 15 e))))
 
--- two changes of every party are one
-pub each-each : (n : ℕ) (f g : Party → Party) (ps : List Party) → each n f (each n g ps) ≡ each n (λ p. f (g p)) ps
-each-each zero f g ps = refl
-each-each (suc n) f g [] = refl
-each-each (suc n) f g (p ∷ ps) = ap (_∷_ (f (g p))) (each-each n f g ps)
-
 -- the lines of one party more
 pub lines-suc : (n : ℕ) (ps : List Party) (eoi : Bool) → n < length ps → linesOf (suc n) ps eoi ≡ driven (linesOf n ps eoi) (at ps n)
 lines-suc n ps eoi h = rw (some-suc n isActive ps h, some-suc n drivesDav ps h, some-suc n drivesNrfd ps h, some-suc n drivesNdac ps h, some-suc n drivesSrq ps h) refl
@@ -111,6 +107,22 @@ lines-all n ps eoi z h = rw (go isActive, go drivesDav, go drivesNrfd, go drives
   where
     go : (f : Party → Bool) → some n f ps ≡ some 15 f ps
     go f = some-all n f ps (omega arith) ∙ ap (λ (m : ℕ). some m f ps) z
+
+-- a figure of all places, for lists of fifteen
+pub all-15 : {A : Type 0} (g : ℕ → A) (n : ℕ) (ps : List Party) → length ps ≡ 15 → (length ps ≤ n → g n ≡ g (length ps)) → 15 ≤ n → g n ≡ g 15
+all-15 g n ps z f h = f (omega arith) ∙ ap g z
+
+-- the search for a talker other than party i, of one party more
+pub other-suc : (i n : ℕ) (ps : List Party) → n < length ps → otherTalker (suc n) i ps ≡ seek (otherTalker n i ps) (place n) (not (eqb n i) && talks (at ps n))
+other-suc i n ps h = rw (first-suc 0 n talks (set ps i idle) (rw (length-set ps i idle) h), zero-add n, beside) refl
+  where
+    beside : talks (at (set ps i idle) n) ≡ (not (eqb n i) && talks (at ps n))
+    beside = test (eqb n i)
+        (λ e. let z : n ≡ i = eqb-true n i e in rw (e, z, getD-set-same ps i idle idle (rw z at h)) refl)
+        (λ e. rw (e, getD-set-other ps i n idle idle (eqb-false n i e)) refl)
+
+pub other-all : (i n : ℕ) (ps : List Party) → length ps ≡ 15 → 15 ≤ n → otherTalker n i ps ≡ otherTalker 15 i ps
+other-all i n ps z h = all-15 (λ k. otherTalker k i ps) n (set ps i idle) (length-set ps i idle ∙ z) (first-all 0 n talks (set ps i idle)) h
 
 -- The two laws of every loop here. After k turns the loop has g k; a turn takes r to s r; at the end k is the number of places with parties.
 pub turn : {A : Type 0} (g : ℕ → A) (s : A → A) (k : ℕ) {r q : A} → g (suc k) ≡ s (g k) → r ≡ g k → q ≡ s r → q ≡ g (k + 1)
@@ -122,7 +134,3 @@ done g count n k h w l m e = let z : k ≡ n = omega arith in e ∙ ap g (z ∙ 
 -- of the change of every party
 pub each-turn : (k : ℕ) (f : Party → Party) (ps : List Party) → k < length ps → each (suc k) f ps ≡ set (each k f ps) k (f (at (each k f ps) k))
 each-turn k f ps h = sym (each-suc k f ps h) ∙ ap (λ (p : Party). set (each k f ps) k (f p)) (sym (each-past k f ps k (omega arith)))
-
--- a figure of all places, for lists of fifteen
-pub all-15 : {A : Type 0} (g : ℕ → A) (n : ℕ) (ps : List Party) → length ps ≡ 15 → (length ps ≤ n → g n ≡ g (length ps)) → 15 ≤ n → g n ≡ g 15
-all-15 g n ps z f h = f (omega arith) ∙ ap g z

@@ -4,8 +4,8 @@ use Prim.Native.Nat.{ℕ, _+_}
 use mathlib.Core.Bool.{Bool, cond, _||_}
 use mathlib.Core.List.{List}
 use Rattle.party.specs.Driving.{isActive, drivesDav, drivesNrfd, drivesNdac, drivesSrq}
-use Rattle.parties.specs.Types.{Party, Lines}
-use Rattle.parties.specs.Places.{some}
+use Rattle.parties.specs.Types.{Party, Lines, Scan}
+use Rattle.parties.specs.Places.{some, otherTalker}
 
 -- "ATN: some party is active. DAV: some source in STRS. NRFD: some acceptor in ANRS, ACDS or AWNS. NDAC: some acceptor in ANRS,
 -- ACRS or ACDS. EOI: the standing byte has END. SRQ: some service in SRQS."
@@ -29,6 +29,10 @@ driven l p = record {
   eoi = l .eoi;
   srq = l .srq || drivesSrq p;
 }
+
+-- One pass over the first n parties, on behalf of the one at place i.
+abbrev pub scanOf : ℕ → ℕ → List Party → Bool → Scan
+scanOf i n ps eoi = record { lines = linesOf n ps eoi; talker = otherTalker n i ps }
 
 -- "The lines answer is ATN 128, DAV 64, NDAC 32, NRFD 16, EOI 8, SRQ 4".
 abbrev pub weight : ℕ → Bool → ℕ

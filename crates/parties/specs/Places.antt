@@ -6,9 +6,9 @@ use mathlib.Core.List.{List, [], _∷_}
 use lib.ListN.{getD, set}
 use lib.Dec.{ltb}
 use Rattle.party.specs.Parts.{idle}
-use Rattle.party.specs.Settling.{attended, settled}
+use Rattle.party.specs.Settling.{attended}
 use Rattle.party.specs.Clearing.{cleared}
-use Rattle.parties.specs.Types.{Place, Party, Found, Nowhere, At, Change, Settle, Attend, Clear}
+use Rattle.parties.specs.Types.{Place, Party, Found, Nowhere, At, Change, Attend, Clear}
 
 abbrev pub place : ℕ → Place
 place i = record { 0 = i }
@@ -55,15 +55,18 @@ abbrev pub isFound : Found → Bool
 isFound Nowhere = false
 isFound (At p) = true
 
--- How the code goes through the places, of which there are fifteen: a search goes on until it has found; one change for every party.
+-- How the code goes through the places, of which there are fifteen: which place a number is, and the first where it is none; a search
+-- goes on until it has found; one change for every party.
 abbrev pub within : ℕ → ℕ
 within n = cond (ltb n 15) n 15
+
+abbrev pub slot : ℕ → ℕ
+slot i = cond (ltb i 15) i 0
 
 abbrev pub seek : Found → Place → Bool → Found
 seek Nowhere p hit = cond hit (At p) Nowhere
 seek (At q) p hit = At q
 
 abbrev pub changed : Change → Party → Party
-changed (Settle atn) p = settled atn p
-changed (Attend atn) p = settled atn (attended atn p)
+changed (Attend atn) p = attended atn p
 changed Clear p = cleared p

@@ -4,5 +4,6 @@ pub use Rattle.party.specs.declared.Party.{Party}
 pub use Rattle.parties.specs.declared.Lines.{Lines}
 pub use Rattle.parties.specs.declared.Found.{Found}
 pub use Rattle.parties.specs.declared.Found.the-variants.{Nowhere, At}
+pub use Rattle.parties.specs.declared.Scan.{Scan}
 pub use Rattle.parties.specs.declared.Change.{Change}
-pub use Rattle.parties.specs.declared.Change.the-variants.{Settle, Attend, Clear}
+pub use Rattle.parties.specs.declared.Change.the-variants.{Attend, Clear}

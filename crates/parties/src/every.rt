@@ -1,23 +1,32 @@
 // The party at a place, and the loops over every party.
 ghost use mathlib.Core.Path.{_≡_};
-ghost use mathlib.Core.Bool.{_||_};
-ghost use Prim.Native.Nat.{_+_, _≤_};
+ghost use mathlib.Core.Bool.{not, _&&_, _||_};
+ghost use Prim.Native.Nat.{_+_, _≤_, _<_};
 ghost use lib.ListN.{set};
 ghost use Rattle.party.specs.Parts.{idle};
 ghost use Rattle.party.specs.Clearing.{clearDrops};
-ghost use Rattle.parties.specs.Places.{at, each, total, firstTalker, otherTalker, within, seek, changed, isFound};
-ghost use Rattle.parties.specs.Lines.{linesOf, driven};
+ghost use Rattle.parties.specs.Places.{at, some, each, total, within, slot, seek, changed, isFound};
+ghost use Rattle.parties.specs.Lines.{driven, scanOf};
+ghost use Rattle.party.specs.Driving.{isActive};
 use crate::Change;
 use crate::Found;
 use crate::Lines;
+use crate::Scan;
 use party::Party;
 use party::Place;
 
 // How many of the fifteen places have parties.
-fn within_places(count: u8) -> usize
+pub fn within_places(count: u8) -> usize
     ensures { λ r. ⌜ (r ≡ within count) × (r ≤ 15) ⌝ }
 {
     if count < 15 { count as usize } else { 15 }
+}
+
+// Which of the fifteen places a number is, and the first where it is none.
+pub fn slot(p: Place) -> usize
+    ensures { λ r. ⌜ (r ≡ slot (p .0)) × (r < 15) ⌝ }
+{
+    if p.0 < 15 { p.0 as usize } else { 0 }
 }
 
 // The party at a place, and the idle party where there is none.
@@ -41,7 +50,8 @@ pub fn with_party(ps: [Party; 15], p: Place, q: Party) -> [Party; 15]
     ps
 }
 
-fn or(a: bool, b: bool) -> bool
+// 'or' of two tests, both of which are made.
+pub fn or(a: bool, b: bool) -> bool
     ensures { λ r. ⌜ r ≡ (a || b) ⌝ }
 {
     if a { true } else { b }
@@ -63,11 +73,40 @@ impl Lines {
     }
 }
 
-// The lines that the parties drive.
-pub fn lines_of(ps: [Party; 15], count: u8, eoi: bool) -> Lines
-    ensures { λ r. ⌜ r ≡ linesOf count ps eoi ⌝ }
+impl Found {
+    // What a search for another talker has found once it has seen the party at a place, which may be one's own.
+    fn or_talker(self, p: Place, own: bool, talk: bool) -> Found
+        ensures { λ r. ⌜ r ≡ seek self p (not own && talk) ⌝ }
+    {
+        match self {
+            Found::Nowhere => {
+                if own {
+                    Found::Nowhere
+                } else if talk {
+                    Found::At(p)
+                } else {
+                    Found::Nowhere
+                }
+            }
+            Found::At(q) => Found::At(q),
+        }
+    }
+
+    pub fn is_found(self) -> bool
+        ensures { λ r. ⌜ r ≡ isFound self ⌝ }
+    {
+        match self {
+            Found::Nowhere => false,
+            Found::At(_) => true,
+        }
+    }
+}
+
+// One pass over the parties, on behalf of the one at place i.
+pub fn scan(ps: [Party; 15], count: u8, i: usize, eoi: bool) -> Scan
+    ensures { λ r. ⌜ r ≡ scanOf i count ps eoi ⌝ }
 {
-    let mut all = Lines {
+    let mut lines = Lines {
         atn: false,
         dav: false,
         nrfd: false,
@@ -75,14 +114,32 @@ pub fn lines_of(ps: [Party; 15], count: u8, eoi: bool) -> Lines
         eoi,
         srq: false,
     };
+    let mut talker = Found::Nowhere;
     let n = within_places(count);
     let mut k: usize = 0;
     while k < n {
         let p = ps[k];
-        all = all.with(p);
+        let role = p.role;
+        lines = lines.with(p);
+        talker = talker.or_talker(Place((k % 256) as u8), k == i, role.talk);
         k = k + 1;
     }
-    all
+    Scan { lines, talker }
+}
+
+// Does an active party drive ATN?
+pub fn is_attended(ps: [Party; 15], count: u8) -> bool
+    ensures { λ r. ⌜ r ≡ some count isActive ps ⌝ }
+{
+    let mut atn = false;
+    let n = within_places(count);
+    let mut k: usize = 0;
+    while k < n {
+        let p = ps[k];
+        atn = or(atn, p.is_active());
+        k = k + 1;
+    }
+    atn
 }
 
 // A change of one party.
@@ -90,8 +147,7 @@ fn change_of(c: Change, p: Party) -> Party
     ensures { λ r. ⌜ r ≡ changed c p ⌝ }
 {
     match c {
-        Change::Settle(atn) => p.settled(atn),
-        Change::Attend(atn) => p.attended(atn).settled(atn),
+        Change::Attend(atn) => p.attended(atn),
         Change::Clear => p.cleared(),
     }
 }
@@ -125,47 +181,4 @@ pub fn clear_drops(ps: [Party; 15], count: u8) -> u8
         k = k + 1;
     }
     sum
-}
-
-fn found_or(f: Found, p: Place, talk: bool) -> Found
-    ensures { λ r. ⌜ r ≡ seek f p talk ⌝ }
-{
-    match f {
-        Found::Nowhere => if talk { Found::At(p) } else { Found::Nowhere },
-        Found::At(q) => Found::At(q),
-    }
-}
-
-// The first party that talks.
-fn first_talker(ps: [Party; 15], count: u8) -> Found
-    ensures { λ r. ⌜ r ≡ firstTalker count ps ⌝ }
-{
-    let mut f = Found::Nowhere;
-    let n = within_places(count);
-    let mut k: usize = 0;
-    while k < n {
-        let p = ps[k];
-        let role = p.role;
-        f = found_or(f, Place((k % 256) as u8), role.talk);
-        k = k + 1;
-    }
-    f
-}
-
-// The first party other than p that talks.
-pub fn other_talker(ps: [Party; 15], count: u8, p: Place) -> Found
-    ensures { λ r. ⌜ r ≡ otherTalker count (p .0) ps ⌝ }
-{
-    first_talker(with_party(ps, p, Party::IDLE), count)
-}
-
-impl Found {
-    pub fn is_found(self) -> bool
-        ensures { λ r. ⌜ r ≡ isFound self ⌝ }
-    {
-        match self {
-            Found::Nowhere => false,
-            Found::At(_) => true,
-        }
-    }
 }

@@ -23,9 +23,14 @@ pub enum Found {
     At(Place),
 }
 
-// What a call does to every party: settling, attention and settling, or the first part of an interface clear.
+// What one pass over the parties tells a call: the lines, and the first party other than its own that talks.
+pub struct Scan {
+    pub lines: Lines,
+    pub talker: Found,
+}
+
+// What some calls do to every party before it settles: attention, or the first part of an interface clear.
 pub enum Change {
-    Settle(bool),
     Attend(bool),
     Clear,
 }

@@ -20,11 +20,11 @@ abbrev μ-loop : tie.MeasureT-loop
 loop-holds : tie.Need-loop-holds Inv-loop μ-loop
 loop-holds c = (search needs, refl)
 
-shared-slice-read-either : tie.Need-shared-slice-read-either Inv-loop μ-loop
-shared-slice-read-either c = search needs
+shared-slice-read-or : tie.Need-shared-slice-read-or Inv-loop μ-loop
+shared-slice-read-or c = search needs
 
-either-requires : tie.Need-either-requires Inv-loop μ-loop
-either-requires c κs = search needs
+or-requires : tie.Need-or-requires Inv-loop μ-loop
+or-requires c κs = search needs
 
 add-i : tie.Need-add-i Inv-loop μ-loop
 add-i c = search needs
@@ -36,7 +36,7 @@ loop-again : tie.Need-loop-again Inv-loop μ-loop
 loop-again c =
     let b = c .before .before .before in
     let args = b .before .before .args in
-    (search needs, scan-turn (anyOver30) (λ x xs. ltb 30 x) refl (λ x xs. refl) (args .addresses .now) (b .loop .i) (b .loop .found) (b .loop .inv .1) (c .either .result) (omega arith) (c .either .ensures))
+    (search needs, scan-turn (anyOver30) (λ x xs. ltb 30 x) refl (λ x xs. refl) (args .addresses .now) (b .loop .i) (b .loop .found) (b .loop .inv .1) (c .or .result) (omega arith) (c .or .ensures))
 
 returns : tie.Need-returns Inv-loop μ-loop
 returns c =
@@ -47,4 +47,4 @@ returns c =
 pub any-over-30-spec : {M : Type 1} → statement M
 any-over-30-spec =
     tie.close
-    (tie.spec Inv-loop μ-loop loop-holds shared-slice-read-either either-requires add-i loop-less loop-again returns)
+    (tie.spec Inv-loop μ-loop loop-holds shared-slice-read-or or-requires add-i loop-less loop-again returns)

@@ -2,7 +2,7 @@
 use Prim.Native.Nat.{_≤_, _-_}
 use mathlib.Core.Path.{_≡_, refl}
 use native.Mathlib.Omega.{arith}
-use lib.ListN.{take}
+use lib.ListN.{length, take}
 use borrow.Author.Needs.{needs}
 use Rattle.bus.specs.Record.{placed}
 use Rattle.bus.proofs.Scans.{place-turn, place-done}
@@ -10,19 +10,16 @@ use Rattle.bus.proofs.building.parties_at.Statement.{statement}
 use Rattle.bus.proofs.building.parties_at.Tie as tie
 
 abbrev Inv-loop : tie.InvT-loop
-Inv-loop addresses n out₀ k₀ out k = (k ≤ n) × (out ≡ placed 15 (take k addresses))
+Inv-loop addresses out₀ k₀ out k = (k ≤ length addresses) × (out ≡ placed 15 (take k addresses))
 
 abbrev μ-loop : tie.MeasureT-loop
-μ-loop addresses n out₀ k₀ out k = n - k
-
-at-most-15-requires : tie.Need-at-most-15-requires Inv-loop μ-loop
-at-most-15-requires c κs = search needs
+μ-loop addresses out₀ k₀ out k = length addresses - k
 
 loop-holds : tie.Need-loop-holds Inv-loop μ-loop
 loop-holds c = (search needs, refl)
 
-shared-slice-read-t19 : tie.Need-shared-slice-read-t19 Inv-loop μ-loop
-shared-slice-read-t19 c = omega arith
+shared-slice-read-t18 : tie.Need-shared-slice-read-t18 Inv-loop μ-loop
+shared-slice-read-t18 c = omega arith
 
 build-requires : tie.Need-build-requires Inv-loop μ-loop
 build-requires c κs = search needs
@@ -42,14 +39,14 @@ loop-less c = search needs
 loop-again : tie.Need-loop-again Inv-loop μ-loop
 loop-again c =
     let b = c .before .before .before in
-    let l = b .before .before .before .args .addresses .now in
+    let l = b .before .before .args .addresses .now in
     (search needs, place-turn l (b .loop .k) (omega arith) (omega arith) (b .loop .inv .1) (c .build .ensures))
 
 returns : tie.Need-returns Inv-loop μ-loop
 returns c =
     let b = c .before in
-    let l = b .before .before .before .args .addresses .now in
-    place-done l (b .before .at-most-15 .result) (b .loop .k) (b .before .at-most-15 .ensures .0) (b .loop .inv .0) (omega arith) (b .loop .inv .1)
+    let l = b .before .before .args .addresses .now in
+    place-done l (b .loop .k) (b .loop .inv .0) (omega arith) (b .loop .inv .1)
 
 pub parties-at-spec : {M : Type 1} → statement M
 parties-at-spec =
@@ -57,9 +54,8 @@ parties-at-spec =
     (tie.spec
     Inv-loop
     μ-loop
-    at-most-15-requires
     loop-holds
-    shared-slice-read-t19
+    shared-slice-read-t18
     build-requires
     mul-out
     array-set-from-out

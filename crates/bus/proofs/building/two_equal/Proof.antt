@@ -38,8 +38,8 @@ part-is-among-end c = search needs
 is-among-requires : tie.Need-is-among-requires Inv-loop μ-loop
 is-among-requires c κs = search needs
 
-either-requires : tie.Need-either-requires Inv-loop μ-loop
-either-requires c κs = search needs
+or-requires : tie.Need-or-requires Inv-loop μ-loop
+or-requires c κs = search needs
 
 loop-less : tie.Need-loop-less Inv-loop μ-loop
 loop-less c = search needs
@@ -48,7 +48,7 @@ loop-again : tie.Need-loop-again Inv-loop μ-loop
 loop-again c =
     let b = c .before .before .before .before .before in
     let l = b .before .before .args .addresses .now in
-    (search needs, scan-turn twoEqual isAmong refl (λ x xs. refl) l (b .loop .i) (b .loop .found) (b .loop .inv .1) (c .either .result) (omega arith) (c .either .ensures ∙ ap (λ x. b .loop .found || x) (c .before .is-among .ensures ∙ ap (isAmong (getD l (b .loop .i) 0)) (take-all (length l - (b .loop .i + 1)) (drop (b .loop .i + 1) l) (rw length-drop (omega arith))))))
+    (search needs, scan-turn twoEqual isAmong refl (λ x xs. refl) l (b .loop .i) (b .loop .found) (b .loop .inv .1) (c .or .result) (omega arith) (c .or .ensures ∙ ap (λ x. b .loop .found || x) (c .before .is-among .ensures ∙ ap (isAmong (getD l (b .loop .i) 0)) (take-all (length l - (b .loop .i + 1)) (drop (b .loop .i + 1) l) (rw length-drop (omega arith))))))
 
 returns : tie.Need-returns Inv-loop μ-loop
 returns c =
@@ -69,7 +69,7 @@ two-equal-spec =
     part-is-among-start
     part-is-among-end
     is-among-requires
-    either-requires
+    or-requires
     loop-less
     loop-again
     returns)

@@ -14,13 +14,13 @@ with-flags-requires c κs = search needs
 with-role-requires : tie.Need-with-role-requires
 with-role-requires c κs = search needs
 
-quietly-requires : tie.Need-quietly-requires
-quietly-requires c κs = search needs
+quiet-requires : tie.Need-quiet-requires
+quiet-requires c κs = search needs
 
 returns : tie.Need-returns
 returns c =
     simp (
-      c .quietly .ensures,
+      c .quiet .ensures,
       c .before .with-role .ensures,
       c .before .before .with-flags .ensures,
       c .before .before .before .with-acceptor .ensures,
@@ -35,5 +35,5 @@ listening-spec =
     with-acceptor-requires
     with-flags-requires
     with-role-requires
-    quietly-requires
+    quiet-requires
     returns)

@@ -5,15 +5,15 @@ use Rattle.bus.proofs.host_calls.registered.Tie as tie
 with-request-requires : tie.Need-with-request-requires
 with-request-requires c κs = search needs
 
-quietly-requires : tie.Need-quietly-requires
-quietly-requires c κs = search needs
+quiet-requires : tie.Need-quiet-requires
+quiet-requires c κs = search needs
 
 returns : tie.Need-returns
 returns c =
     simp (
-      c .quietly .ensures,
+      c .quiet .ensures,
       c .before .with-request .ensures,
     )
 
 pub registered-spec : {M : Type 1} → statement M
-registered-spec = tie.close (tie.spec with-request-requires quietly-requires returns)
+registered-spec = tie.close (tie.spec with-request-requires quiet-requires returns)

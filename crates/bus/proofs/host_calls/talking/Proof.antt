@@ -8,16 +8,16 @@ with-flags-requires c κs = search needs
 with-role-requires : tie.Need-with-role-requires
 with-role-requires c κs = search needs
 
-quietly-requires : tie.Need-quietly-requires
-quietly-requires c κs = search needs
+quiet-requires : tie.Need-quiet-requires
+quiet-requires c κs = search needs
 
 returns : tie.Need-returns
 returns c =
     simp (
-      c .quietly .ensures,
+      c .quiet .ensures,
       c .before .with-role .ensures,
       c .before .before .with-flags .ensures,
     )
 
 pub talking-spec : {M : Type 1} → statement M
-talking-spec = tie.close (tie.spec with-flags-requires with-role-requires quietly-requires returns)
+talking-spec = tie.close (tie.spec with-flags-requires with-role-requires quiet-requires returns)

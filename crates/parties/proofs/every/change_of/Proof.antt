@@ -5,17 +5,8 @@ use Rattle.parties.proofs.every.change_of.Tie as tie
 enum-known-c : tie.Need-enum-known-c
 enum-known-c c = search needs
 
-settled-requires : tie.Need-settled-requires
-settled-requires c κs = search needs
-
-enum-known-c-2 : tie.Need-enum-known-c-2
-enum-known-c-2 c = search needs
-
 attended-requires : tie.Need-attended-requires
 attended-requires c κs = search needs
-
-settled-requires-2 : tie.Need-settled-requires-2
-settled-requires-2 c κs = search needs
 
 enum-told : tie.Need-enum-told
 enum-told c = search needs
@@ -26,20 +17,12 @@ cleared-requires c κs = search needs
 returns : tie.Need-returns
 returns c =
     simp (
-      c .settled .ensures,
+      c .attended .ensures,
       c .before .before .c .given .1,
     )
 
 returns-2 : tie.Need-returns-2
 returns-2 c =
-    simp (
-      c .settled2 .ensures,
-      c .before .attended .ensures,
-      c .before .before .before .c2 .given .1,
-    )
-
-returns-3 : tie.Need-returns-3
-returns-3 c =
     simp (
       c .cleared .ensures,
       c .before .enum-told .given .1,
@@ -47,15 +30,4 @@ returns-3 c =
 
 pub change-of-spec : {M : Type 1} → statement M
 change-of-spec =
-    tie.close
-    (tie.spec
-    enum-known-c
-    settled-requires
-    enum-known-c-2
-    attended-requires
-    settled-requires-2
-    enum-told
-    cleared-requires
-    returns
-    returns-2
-    returns-3)
+    tie.close (tie.spec enum-known-c attended-requires enum-told cleared-requires returns returns-2)

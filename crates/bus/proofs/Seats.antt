@@ -1,0 +1,120 @@
+-- What a call reads at a slot of the array is what the machine reads at the place; and how a call's answer is put together.
+-- Assumes nothing.
+use mathlib.Core.Path.{_≡_, refl, sym, ap, _∙_}
+use mathlib.Core.Bool.{Bool, true, false, not, cond, _&&_, _||_}
+use mathlib.Core.List.{List}
+use Prim.Native.Nat.{ℕ, _≤_}
+use native.Mathlib.Omega.{arith}
+use lib.Dec.{ltb, eqb}
+use lib.ListN.{length, set, length-set, List·getD-eq-default}
+use borrow.Author.Tests.{ltb-false}
+use Rattle.party.specs.Parts.{idle}
+use Rattle.party.specs.Sending.{isSource}
+use Rattle.party.proofs.Logic.{no, test}
+use Rattle.parties.specs.Places.{at, slot, otherTalker, isFound}
+use Rattle.parties.specs.Lines.{scanOf}
+use Rattle.bus.specs.Types.{Place, Party, Scan, Standing, Nothing, Byte, Bus, Call, Refusal, After, Effect}
+use Rattle.bus.specs.Types.ruling
+use Rattle.bus.specs.Types.call-of
+use Rattle.bus.specs.Types.after
+use Rattle.bus.specs.Words.{isAccepted}
+use Rattle.bus.specs.Record.{here, lines, hasEnd, refuse, sendsCommand, senderSlot}
+use Rattle.bus.specs.Settling.{settleAs, deserted, left}
+use Rattle.bus.specs.Refusals.{placeOf, ofParty, isInside, judge, refusal, refusalAt}
+use Rattle.bus.specs.Following.{touch, followed}
+use Rattle.bus.specs.Machine.{effectOf, call}
+
+slot-in : (i : ℕ) → ltb i 15 ≡ true → slot i ≡ i
+slot-in i e = rw e refl
+
+-- nothing of a party is read where there is none
+judge-out : (c : Call) (p q : Party) (t x y s h : Bool) → judge false p t x s h c ≡ judge false q t y s h c
+judge-out (call-of.Step i) p q t x y s h = refl
+judge-out (call-of.Write i v e) p q t x y s h = refl
+judge-out (call-of.Read i) p q t x y s h = refl
+judge-out (call-of.PollRegister i v) p q t x y s h = refl
+judge-out (call-of.ListenOnly i on) p q t x y s h = refl
+judge-out (call-of.TalkOnly i on) p q t x y s h = refl
+judge-out (call-of.TakeControl i) p q t x y s h = refl
+judge-out (call-of.GoToStandby i) p q t x y s h = refl
+judge-out (call-of.InterfaceClear i) p q t x y s h = refl
+judge-out (call-of.Reset i) p q t x y s h = refl
+judge-out (call-of.Drop i) p q t x y s h = refl
+judge-out call-of.Lines p q t x y s h = refl
+
+pub judge-seat : (b : Bus) (i : ℕ) (c : Call)
+    → judge (isInside (b .count) i) (at (b .parties) (slot i)) (lines b .atn) (isFound (otherTalker (b .count) (slot i) (b .parties))) (sendsCommand i (b .standing)) (eqb i (b .system .0)) c
+    ≡ refusalAt i (lines b) b c
+judge-seat b i c = test (ltb i 15) (λ e. rw (slot-in i e) refl)
+    (λ e. rw e (judge-out c (at (b .parties) 0) (here b i) (lines b .atn) (isFound (otherTalker (b .count) 0 (b .parties))) (isFound (otherTalker (b .count) i (b .parties))) (sendsCommand i (b .standing)) (eqb i (b .system .0))))
+
+in-seat : (i count : ℕ) (r : Refusal) → isAccepted (ofParty (isInside count i) r) ≡ true → slot i ≡ i
+in-seat i count r ok = test (ltb i 15) (slot-in i) (λ e. no (out e))
+  where
+    out : ltb i 15 ≡ false → _≡_ {A = ℕ} 0 1
+    out e = let z : isAccepted (ofParty (isInside count i) r) ≡ false = rw e refl in no (cc)
+
+-- an accepted call has its seat
+pub seat : (b : Bus) (c : Call) → isAccepted (refusal (lines b) b c) ≡ true → slot (placeOf c .0) ≡ placeOf c .0
+seat b (call-of.Step p) = in-seat (p .0) (b .count) _
+seat b (call-of.Write p v e) = in-seat (p .0) (b .count) _
+seat b (call-of.Read p) = in-seat (p .0) (b .count) _
+seat b (call-of.PollRegister p v) = in-seat (p .0) (b .count) _
+seat b (call-of.ListenOnly p on) = in-seat (p .0) (b .count) _
+seat b (call-of.TalkOnly p on) = in-seat (p .0) (b .count) _
+seat b (call-of.TakeControl p) = in-seat (p .0) (b .count) _
+seat b (call-of.GoToStandby p) = in-seat (p .0) (b .count) _
+seat b (call-of.InterfaceClear p) = in-seat (p .0) (b .count) _
+seat b (call-of.Reset p) = in-seat (p .0) (b .count) _
+seat b (call-of.Drop p) = in-seat (p .0) (b .count) _
+seat b call-of.Lines = λ _. refl
+
+-- the sender of what stands, at its slot
+pub left-seat : (t : Bool) (ps : List Party) (st : Standing) → length ps ≡ 15 → left (isSource t (at ps (senderSlot st))) st ≡ deserted t ps st
+left-seat t ps Nothing z = refl
+left-seat t ps (Byte s k v e) z = test (ltb (s .0) 15) (λ h. rw h refl) (λ h. rw (h, gone (ltb-false (s .0) 15 h)) (mute t))
+  where
+    gone : 15 ≤ s .0 → at ps (s .0) ≡ idle
+    gone h = List·getD-eq-default ps idle (omega arith)
+
+    mute : (t : Bool) → true ≡ not (isSource t idle)
+    mute true = refl
+    mute false = refl
+
+-- What a call c on the bus b has read before it is judged.
+pub record Seen (b : Bus) (c : Call) : Type 0 where
+  pub i : Place
+  pub k : ℕ
+  pub eoi : Bool
+  pub s : Scan
+  pub placed : i ≡ placeOf c
+  pub seated : k ≡ slot (i .0)
+  pub ended : eoi ≡ hasEnd (b .standing)
+  pub scanned : s ≡ scanOf k (b .count) (b .parties) eoi
+
+module _ (b : Bus) (c : Call) (w : Seen b c) where
+  pub ruled : (inside sends another : Bool) (r : Refusal) → inside ≡ isInside (b .count) (w .i .0) → sends ≡ sendsCommand (w .i .0) (b .standing) → another ≡ isFound (w .s .talker)
+      → r ≡ judge inside (at (b .parties) (w .k)) (w .s .lines .atn) another sends (eqb (w .i .0) (b .system .0)) c → r ≡ refusal (lines b) b c
+  ruled inside sends another r ei es ea er = rw (er, ei, es, ea, w .scanned, w .seated, w .placed) (judge-seat b (placeOf c .0) c)
+
+  pub refuses : (r : Refusal) → r ≡ refusal (lines b) b c → isAccepted r ≡ false → refuse r b ≡ call b c
+  refuses r e f = rw (sym e, f) refl
+
+  -- An accepted call has effect e.
+  module _ (r : Refusal) (judged : r ≡ refusal (lines b) b c) (accepted : isAccepted r ≡ true) (e : Effect) (effected : e ≡ effectOf (w .s .lines) (w .s .talker) (b .standing) (at (b .parties) (w .k)) c) where
+    ok : isAccepted (refusal (lines b) b c) ≡ true
+    ok = ap isAccepted (sym judged) ∙ accepted
+
+    follows-at : followed (e .after) (lines b .atn) b (placeOf c .0) e ≡ call b c
+    follows-at = rw (effected, w .scanned, w .ended, w .seated, w .placed, seat b c ok, ok) refl
+
+    pub follows : (x : After) → e .after ≡ x → followed x (lines b .atn) b (w .i .0) e ≡ call b c
+    follows x h = rw (sym h, w .placed) follows-at
+
+    pub settles : e .after ≡ after.Settle → length (b .parties) ≡ 15 → (j : ℕ) (source off : Bool) → j ≡ senderSlot (e .standing)
+        → source ≡ isSource (w .s .lines .atn) (at (set (b .parties) (w .k) (e .party)) j) → off ≡ left source (e .standing)
+        → settleAs (w .s .lines .atn) off b (e .said) (set (b .parties) (w .k) (e .party)) (e .standing) ≡ call b c
+    settles h z j source off ej es eo = rw (eo, es, ej, left-seat (w .s .lines .atn) (set (b .parties) (w .k) (e .party)) (e .standing) (length-set (b .parties) (w .k) (e .party) ∙ z)) here-settled
+      where
+        here-settled : touch (w .s .lines .atn) b (w .k) e ≡ call b c
+        here-settled = rw (w .scanned, w .seated, w .placed, seat b c ok) (rw h at follows-at)
