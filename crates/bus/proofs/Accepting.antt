@@ -11,10 +11,11 @@ use Rattle.party.proofs.Logic.{no}
 use Rattle.parties.proofs.Places.{some-seen}
 use Rattle.bus.specs.Types.{Place, Party, Strs, Aids, Anrs, Acrs, Acds, Standing, Nothing, Byte, Bus, Refusal}
 use Rattle.bus.specs.Types.ruling
-use Rattle.bus.specs.Words.{isAccepted}
-use Rattle.bus.specs.Record.{here, stands, lines}
-use Rattle.bus.specs.Calls.{joining}
-use Rattle.bus.specs.Refusals.{ofParty, ofSwitch, isOn, isInside}
+use Rattle.effect.specs.Words.{isAccepted}
+use Rattle.bus.specs.Record.{here, lines}
+use Rattle.effect.specs.Stands.{stands}
+use Rattle.effect.specs.Calls.{joining}
+use Rattle.effect.specs.Refusals.{ofParty, ofSwitch, isOn, isInside}
 use Rattle.bus.proofs.Invariant.{Inv}
 
 -- What a ruling of Accepted says of the test that it passed.

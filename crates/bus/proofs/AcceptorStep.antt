@@ -15,9 +15,9 @@ use Rattle.party.proofs.Settled.{source-of-active}
 use Rattle.bus.specs.Types.{Place, Party, Strs, Acceptor, Aids, Anrs, Acrs, Acds, Awns, Kind, Event, Standing, Nothing, Byte, Bus, Effect}
 use Rattle.bus.specs.Types.ev
 use Rattle.bus.specs.Types.call-of
-use Rattle.bus.specs.Record.{here, stands, lines}
-use Rattle.bus.specs.Settling.{say}
-use Rattle.bus.specs.Step.{stay, move, taking, hearing, take, acceptorStep}
+use Rattle.bus.specs.Record.{here, lines}
+use Rattle.effect.specs.Stands.{stands}
+use Rattle.effect.specs.Step.{say, stay, move, taking, hearing, take, acceptorStep}
 use Rattle.bus.specs.Following.{touch, follow}
 use Rattle.bus.specs.Delivery.{isPut, isEnd, isTake, isHostPut}
 use Rattle.bus.proofs.Invariant.{sentBy, isCommand, codeOf, waits, look, Inv, atnOf, quiet}

@@ -17,7 +17,7 @@ use Rattle.party.proofs.Roles.{nameOf, Apart, Single}
 use Rattle.parties.specs.Places.{at, some, each, total}
 use Rattle.parties.proofs.Places.{at-each, each-below, each-past, some-seen, some-each, length-each, total-each}
 use Rattle.bus.specs.Types.{Party, Strs, Acceptor, Aids, Anrs, Acrs, Acds, Standing, Nothing, Byte, Bus, Said}
-use Rattle.bus.specs.Record.{stands}
+use Rattle.effect.specs.Stands.{stands}
 use Rattle.bus.specs.Settling.{attend}
 use Rattle.bus.proofs.Invariant.{busy, Pre, Inv, kept-pre, seen, seen-still}
 use Rattle.bus.proofs.Change.{Unique, same-apart}

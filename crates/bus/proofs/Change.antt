@@ -12,7 +12,7 @@ use Rattle.party.specs.Sending.{isSource, isPolled}
 use Rattle.party.proofs.Roles.{nameOf, Single, Apart, Addressed, Weak, weak-same, weaken}
 use Rattle.parties.proofs.Places.{upd}
 use Rattle.bus.specs.Types.{Party, Strs, Aids, Anrs, Acrs, Role, Standing}
-use Rattle.bus.specs.Record.{stands}
+use Rattle.effect.specs.Stands.{stands}
 use Rattle.bus.proofs.Invariant.{busy, sentBy, ofStatus, standsOf, look, Pre}
 
 module _ (v : ℕ → Party) (i : ℕ) (q : Party) where

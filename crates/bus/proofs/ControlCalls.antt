@@ -23,13 +23,15 @@ use Rattle.bus.specs.Types.{Place, Party, Control, Idle, Standby, Active
 use Rattle.bus.specs.Types.ruling
 use Rattle.bus.specs.Types.ev
 use Rattle.bus.specs.Types.call-of
-use Rattle.bus.specs.Words.{isAccepted}
-use Rattle.bus.specs.Record.{here, lines, sendsCommand}
-use Rattle.bus.specs.Settling.{say, settle, settleAs, deserted}
-use Rattle.bus.specs.Calls.{quiet, controlled, resetAcceptor, tell}
+use Rattle.effect.specs.Words.{isAccepted}
+use Rattle.bus.specs.Record.{here, lines}
+use Rattle.effect.specs.Stands.{sendsCommand}
+use Rattle.effect.specs.Step.{say}
+use Rattle.bus.specs.Settling.{settle, settleAs, deserted}
+use Rattle.effect.specs.Calls.{quiet, controlled, resetAcceptor, tell}
 use Rattle.bus.specs.Following.{alarm, touch, follow}
-use Rattle.bus.specs.Refusals.{inStandby, standbyRefusal, refusal}
-use Rattle.bus.specs.Machine.{accepted}
+use Rattle.effect.specs.Refusals.{inStandby, standbyRefusal}
+use Rattle.bus.specs.Machine.{refusal, accepted}
 use Rattle.bus.specs.Delivery.{wrote, held}
 use Rattle.bus.proofs.Invariant.{busy, active-busy, sentBy, isCommand, inAcrs, is-acrs, waits, look, Inv, atnOf, settle-inv}
 use Rattle.bus.proofs.Change.{upd-all, Unique, upd-unique, same-apart, upd-apart, weak-look}
@@ -188,7 +190,7 @@ module _ (b : Bus) (I : Inv b) (p : Place) where
 cleared-held : (p : Party) → heldBytes (cleared p) + clearDrops p ≡ heldBytes p
 cleared-held p = go (isActive p)
   where
-    go : (x : Bool) → one (isFull (cond x Empty (p .held))) + one (x && isFull (p .held)) ≡ one (isFull (p .held))
+    go : (x : Bool) → one (isFull (cond x Empty (p .held))) + cond x (heldBytes p) 0 ≡ heldBytes p
     go true = omega arith
     go false = omega arith
 

@@ -13,10 +13,11 @@ use Rattle.party.proofs.Logic.{cond-elim}
 use Rattle.bus.specs.Types.{Place, Bus, Answer, Call, Standing, Effect}
 use Rattle.bus.specs.Types.ruling
 use Rattle.bus.specs.Types.call-of
-use Rattle.bus.specs.Words.{isAccepted}
-use Rattle.bus.specs.Record.{here, stands, lines}
+use Rattle.effect.specs.Words.{isAccepted}
+use Rattle.bus.specs.Record.{here, lines}
+use Rattle.effect.specs.Stands.{stands}
 use Rattle.bus.specs.Following.{follow}
-use Rattle.bus.specs.Refusals.{refusal}
+use Rattle.bus.specs.Machine.{refusal}
 use Rattle.bus.specs.Machine as m
 use Rattle.bus.specs.Delivery.{Moment, history, isPut, isEnd, isHostPut, wrote, tally, held}
 use Rattle.bus.proofs.Invariant.{Inv, atnOf}

@@ -10,14 +10,13 @@ use Rattle.bus.specs.Types.{Place, Party, Slot, Empty, Full, Bus}
 use Rattle.bus.specs.Types.ruling
 use Rattle.bus.specs.Types.ev
 use Rattle.bus.specs.Types.call-of
-use Rattle.bus.specs.Words.{isAccepted}
+use Rattle.effect.specs.Words.{isAccepted}
 use Rattle.bus.specs.Record.{here, lines}
-use Rattle.bus.specs.Settling.{say}
-use Rattle.bus.specs.Step.{does}
-use Rattle.bus.specs.Calls.{read, drop}
+use Rattle.effect.specs.Step.{say, does}
+use Rattle.effect.specs.Calls.{read, drop}
 use Rattle.bus.specs.Following.{touch, follow}
-use Rattle.bus.specs.Refusals.{ofSwitch, isOn, refusal}
-use Rattle.bus.specs.Machine.{accepted}
+use Rattle.effect.specs.Refusals.{ofSwitch, isOn}
+use Rattle.bus.specs.Machine.{refusal, accepted}
 use Rattle.bus.proofs.Invariant.{Inv, atnOf}
 use Rattle.bus.proofs.Accepting.{if-not, known, switched}
 use Rattle.bus.proofs.Summary.{Good}

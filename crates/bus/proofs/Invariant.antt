@@ -21,7 +21,8 @@ use Rattle.party.proofs.Settled.{newborn-still, settled-strs, settled-keeps, se
 use Rattle.parties.specs.Places.{at, some, each}
 use Rattle.parties.proofs.Places.{at-each-all, some-each, length-each}
 use Rattle.bus.specs.Types.{Party, Control, Idle, Standby, Active, Sids, Strs, Acceptor, Aids, Anrs, Acrs, Acds, Awns, Kind, Command, Data, Status, Meaning, Role, Standing, Nothing, Byte, Bus, Said}
-use Rattle.bus.specs.Record.{here, stands, hasEnd, ofCommand}
+use Rattle.bus.specs.Record.{here}
+use Rattle.effect.specs.Stands.{stands, hasEnd, ofCommand}
 use Rattle.bus.specs.Settling.{deserted, settle}
 
 -- in charge of the bus, now or once it takes control again

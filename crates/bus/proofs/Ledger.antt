@@ -13,7 +13,8 @@ use lib.Dec.{eqb, ltb}
 use borrow.Author.Tests.{eqb-true, eqb-false, ltb-true, ltb-false}
 use Rattle.party.proofs.Logic.{no, test}
 use Rattle.bus.specs.Types.{Place, Kind, Acrs, Acds, Standing, Nothing, Byte, Bus, Call}
-use Rattle.bus.specs.Record.{here, stands}
+use Rattle.bus.specs.Record.{here}
+use Rattle.effect.specs.Stands.{stands}
 use Rattle.bus.specs.Delivery.{moment, busAt, answerAt, PutAt, EndsAt, BreaksAt, StandsAt, TakesAt, ReadyAt, LeavesAt, StayedFrom, Taken, isEnd}
 use Rattle.bus.proofs.Summary.{Good, Shape, keeps, puts, ends, breaks, Way, stayed, took, left, broke, Takes}
 

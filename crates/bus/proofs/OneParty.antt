@@ -14,10 +14,10 @@ use Rattle.bus.specs.Types.{Place, Party, Source, Strs, Aids, Anrs, Acrs
 use Rattle.bus.specs.Types.ruling
 use Rattle.bus.specs.Types.ev
 use Rattle.bus.specs.Types.call-of
-use Rattle.bus.specs.Words.{isAccepted}
-use Rattle.bus.specs.Record.{here, stands}
-use Rattle.bus.specs.Settling.{say}
-use Rattle.bus.specs.Step.{does, stay}
+use Rattle.effect.specs.Words.{isAccepted}
+use Rattle.bus.specs.Record.{here}
+use Rattle.effect.specs.Stands.{stands}
+use Rattle.effect.specs.Step.{say, does, stay}
 use Rattle.bus.specs.Following.{touch}
 use Rattle.bus.specs.Machine.{judged}
 use Rattle.bus.specs.Delivery.{isPut, isEnd, isTake, isHostPut, isWrite, wrote}

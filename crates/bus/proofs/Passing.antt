@@ -21,8 +21,7 @@ use Rattle.bus.specs.Types.{Place, Party, Role, Idle, Active, Sgns, At, 
 use Rattle.bus.specs.Types.ev
 use Rattle.bus.specs.Types.call-of
 use Rattle.bus.specs.Record.{here, lines}
-use Rattle.bus.specs.Settling.{say}
-use Rattle.bus.specs.Step.{heardBy}
+use Rattle.effect.specs.Step.{say, heardBy}
 use Rattle.bus.specs.Following.{pass}
 use Rattle.bus.specs.Delivery.{held}
 use Rattle.bus.proofs.Invariant.{busy, active-busy, waits, look, Inv}

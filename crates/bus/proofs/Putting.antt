@@ -17,7 +17,7 @@ use Rattle.party.proofs.Settled.{source-case}
 use Rattle.parties.specs.Places.{place}
 use Rattle.parties.proofs.Places.{upd}
 use Rattle.bus.specs.Types.{Party, Sgns, Strs, Acceptor, Aids, Anrs, Acrs, Acds, Awns, Kind, Role, Standing, Nothing, Byte}
-use Rattle.bus.specs.Record.{ofCommand}
+use Rattle.effect.specs.Stands.{ofCommand}
 use Rattle.bus.proofs.Invariant.{busy, active-busy, sentBy, ofStatus, ofData, isCommand, codeOf, inAcrs, is-acrs, waits, look, look-idle, same-heard, Pre, Quiet}
 use Rattle.bus.proofs.Change.{upd-all, Unique, upd-unique, upd-apart}
 

@@ -17,12 +17,14 @@ use Rattle.bus.specs.Types.{Place, Party, Scan, Standing, Nothing, Byte,
 use Rattle.bus.specs.Types.ruling
 use Rattle.bus.specs.Types.call-of
 use Rattle.bus.specs.Types.after
-use Rattle.bus.specs.Words.{isAccepted}
-use Rattle.bus.specs.Record.{here, lines, hasEnd, refuse, sendsCommand, senderSlot}
-use Rattle.bus.specs.Settling.{settleAs, deserted, left}
-use Rattle.bus.specs.Refusals.{placeOf, ofParty, isInside, judge, refusal, refusalAt}
+use Rattle.effect.specs.Words.{isAccepted}
+use Rattle.bus.specs.Record.{here, lines, refuse}
+use Rattle.effect.specs.Stands.{hasEnd, sendsCommand, senderSlot, left}
+use Rattle.bus.specs.Settling.{settleAs, deserted}
+use Rattle.effect.specs.Refusals.{placeOf, ofParty, isInside, judge}
+use Rattle.bus.specs.Machine.{refusal, refusalAt, call}
 use Rattle.bus.specs.Following.{touch, followed}
-use Rattle.bus.specs.Machine.{effectOf, call}
+use Rattle.effect.specs.Effects.{effectOf}
 
 slot-in : (i : ℕ) → ltb i 15 ≡ true → slot i ≡ i
 slot-in i e = rw e refl

@@ -19,9 +19,9 @@ use Rattle.bus.specs.Types.{Place, Party, Source, Sids, Sgns, Sdys, Strs
 use Rattle.bus.specs.Types.ev
 use Rattle.bus.specs.Types.after
 use Rattle.bus.specs.Types.call-of
-use Rattle.bus.specs.Record.{here, lines, ofCommand}
-use Rattle.bus.specs.Settling.{say}
-use Rattle.bus.specs.Step.{does, stay, move, put, noacc, ready, heardBy, passTo, ended, sourceStep}
+use Rattle.bus.specs.Record.{here, lines}
+use Rattle.effect.specs.Stands.{ofCommand}
+use Rattle.effect.specs.Step.{say, does, stay, move, put, noacc, ready, heardBy, passTo, ended, sourceStep}
 use Rattle.bus.specs.Following.{touch, follow}
 use Rattle.bus.specs.Delivery.{isPut, isEnd, isTake, isHostPut}
 use Rattle.bus.proofs.Invariant.{sentBy, look, look-idle, Pre, Inv, atnOf, quiet}

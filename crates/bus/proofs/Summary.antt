@@ -22,9 +22,10 @@ use Rattle.bus.specs.Types.{Place, Party, Acrs, Acds, Full, Kind, Event,
 use Rattle.bus.specs.Types.ruling
 use Rattle.bus.specs.Types.ev
 use Rattle.bus.specs.Types.call-of
-use Rattle.bus.specs.Record.{here, stands, refuse}
-use Rattle.bus.specs.Settling.{say, settleAs, attend, deserted}
-use Rattle.bus.specs.Step.{does}
+use Rattle.bus.specs.Record.{here, refuse}
+use Rattle.effect.specs.Stands.{stands}
+use Rattle.effect.specs.Step.{say, does}
+use Rattle.bus.specs.Settling.{settleAs, attend, deserted}
 use Rattle.bus.specs.Following.{touch}
 use Rattle.bus.specs.Delivery.{isPut, isEnd, isTake, isHostPut, wrote, held}
 use Rattle.bus.proofs.Invariant.{look, Pre, Inv, atnOf, settled-idle, settle-inv}

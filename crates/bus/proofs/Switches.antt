@@ -20,14 +20,14 @@ use Rattle.bus.specs.Types.{Place, Party, Strs, Acceptor, Aids, Anrs, Ac
 use Rattle.bus.specs.Types.ruling
 use Rattle.bus.specs.Types.ev
 use Rattle.bus.specs.Types.call-of
-use Rattle.bus.specs.Words.{isAccepted}
-use Rattle.bus.specs.Record.{here, stands, lines}
-use Rattle.bus.specs.Settling.{say}
-use Rattle.bus.specs.Step.{does}
+use Rattle.effect.specs.Words.{isAccepted}
+use Rattle.bus.specs.Record.{here, lines}
+use Rattle.effect.specs.Stands.{stands}
+use Rattle.effect.specs.Step.{say, does}
 use Rattle.bus.specs.Following.{touch}
-use Rattle.bus.specs.Calls.{joining}
-use Rattle.bus.specs.Refusals.{ofSwitch, isOn, listenRefusal, talkRefusal, refusal}
-use Rattle.bus.specs.Machine.{accepted}
+use Rattle.effect.specs.Calls.{joining}
+use Rattle.effect.specs.Refusals.{ofSwitch, isOn, listenRefusal, talkRefusal}
+use Rattle.bus.specs.Machine.{refusal, accepted}
 use Rattle.bus.specs.Delivery.{wrote}
 use Rattle.bus.proofs.Invariant.{isCommand, codeOf, waits, look, look-idle, same-heard, Inv, atnOf}
 use Rattle.bus.proofs.Invariant as invariant

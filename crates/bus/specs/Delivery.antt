@@ -13,8 +13,9 @@ use Rattle.bus.specs.Types.{Place, Active, Strs, Acrs, Acds, Full, Event
 use Rattle.bus.specs.Types.ruling
 use Rattle.bus.specs.Types.ev
 use Rattle.bus.specs.Types.call-of
-use Rattle.bus.specs.Words.{isAccepted}
-use Rattle.bus.specs.Record.{here, stands, refuse, build}
+use Rattle.effect.specs.Words.{isAccepted}
+use Rattle.bus.specs.Record.{here, refuse, build}
+use Rattle.effect.specs.Stands.{stands}
 use Rattle.bus.specs.Machine as m
 
 -- What an event says of a byte: "A byte is put up by a step with event cmd, data or stat"; "event took, heard, clear or trigger";

@@ -9,6 +9,7 @@ use Rattle.message.specs.Meaning.{address}
 use Rattle.party.specs.Parts.{idle, newborn}
 use Rattle.parties.specs.Places.{place, at, slot}
 use Rattle.parties.specs.Lines.{linesOf}
+use Rattle.effect.specs.Stands.{hasEnd}
 use Rattle.bus.specs.Types.{Place, Party, Kind, Command, Data, Status, Lines, Standing, Nothing, Byte, Bus, Answer, Refusal}
 use Rattle.bus.specs.Types.ruling
 use Rattle.bus.specs.Types.ev
@@ -16,29 +17,6 @@ use Rattle.bus.specs.Types.ev
 -- The party at a place.
 abbrev pub here : Bus → ℕ → Party
 here b i = at (b .parties) i
-
-abbrev pub stands : Standing → Bool
-stands Nothing = false
-stands (Byte s k v e) = true
-
-abbrev pub hasEnd : Standing → Bool
-hasEnd Nothing = false
-hasEnd (Byte s k v e) = e
-
-abbrev pub ofCommand : Kind → Bool
-ofCommand Command = true
-ofCommand Data = false
-ofCommand Status = false
-
--- "the sender of a standing command"
-abbrev pub sendsCommand : ℕ → Standing → Bool
-sendsCommand i Nothing = false
-sendsCommand i (Byte s k v e) = cond (ofCommand k) (eqb i (s .0)) false
-
--- The place of the sender, and the first where nothing stands.
-abbrev pub senderSlot : Standing → ℕ
-senderSlot Nothing = 0
-senderSlot (Byte s k v e) = slot (s .0)
 
 abbrev pub lines : Bus → Lines
 lines b = linesOf (b .count) (b .parties) (hasEnd (b .standing))

@@ -11,10 +11,7 @@ use Rattle.party.specs.Settling.{attended, settled}
 use Rattle.parties.specs.Places.{at, some, each}
 use Rattle.bus.specs.Types.{Party, Event, Standing, Nothing, Byte, Bus, Answer, Said}
 use Rattle.bus.specs.Types.ruling
-use Rattle.bus.specs.Record.{stands}
-
-abbrev pub say : Event → ℕ → Bool → ℕ → Said
-say x v e d = record { event = x; byte = v; end = e; dropped = d }
+use Rattle.effect.specs.Stands.{stands}
 
 -- The answer of an accepted call that leaves the parties ps. `off` says that what stands is broken off.
 abbrev pub answered : Bool → Bus → Said → List Party → Standing → Answer
@@ -36,11 +33,6 @@ settleAs atn off b s ps st = answered off b s (each (b .count) (settled atn) ps)
 abbrev pub deserted : Bool → List Party → Standing → Bool
 deserted atn ps Nothing = false
 deserted atn ps (Byte s k v e) = not (isSource atn (at ps (s .0)))
-
--- The same, where it is known whether the party at the sender's place is a source. Who is at no place is none.
-abbrev pub left : Bool → Standing → Bool
-left source Nothing = false
-left source (Byte s k v e) = cond (ltb (s .0) 15) (not source) true
 
 -- Settling alone, with ATN as it is: no call changes who is active unless attention follows.
 abbrev pub settle : Bool → Bus → Said → List Party → Standing → Answer

@@ -23,15 +23,15 @@ pub use Rattle.parties.specs.declared.Lines.{Lines}
 pub use Rattle.parties.specs.declared.Scan.{Scan}
 pub use Rattle.parties.specs.declared.Found.{Found}
 pub use Rattle.parties.specs.declared.Found.the-variants.{Nowhere, At}
-pub use Rattle.bus.specs.declared.Standing.{Standing}
-pub use Rattle.bus.specs.declared.Standing.the-variants.{Nothing, Byte}
+pub use Rattle.effect.specs.declared.Standing.{Standing}
+pub use Rattle.effect.specs.declared.Standing.the-variants.{Nothing, Byte}
 pub use Rattle.bus.specs.declared.Bus.{Bus}
-pub use Rattle.bus.specs.declared.Refusal.{Refusal}
-pub use Rattle.bus.specs.declared.Refusal.the-variants as ruling
+pub use Rattle.effect.specs.declared.Refusal.{Refusal}
+pub use Rattle.effect.specs.declared.Refusal.the-variants as ruling
 pub use Rattle.bus.specs.declared.Answer.{Answer}
-pub use Rattle.bus.specs.declared.Call.{Call}
-pub use Rattle.bus.specs.declared.Call.the-variants as call-of
-pub use Rattle.bus.specs.declared.Said.{Said}
-pub use Rattle.bus.specs.declared.After.{After}
-pub use Rattle.bus.specs.declared.After.the-variants as after
-pub use Rattle.bus.specs.declared.Effect.{Effect}
+pub use Rattle.effect.specs.declared.Call.{Call}
+pub use Rattle.effect.specs.declared.Call.the-variants as call-of
+pub use Rattle.effect.specs.declared.Said.{Said}
+pub use Rattle.effect.specs.declared.After.{After}
+pub use Rattle.effect.specs.declared.After.the-variants as after
+pub use Rattle.effect.specs.declared.Effect.{Effect}

@@ -6,8 +6,8 @@ ghost use Rattle.bus.specs.Record.{placed, built, anyOver30, isAmong, tw
 ghost use Rattle.bus.specs.Types.ruling;
 use crate::Answer;
 use crate::Bus;
-use crate::Refusal;
-use crate::Standing;
+use effect::Refusal;
+use effect::Standing;
 use message::Address;
 use parties::every::or;
 use party::Party;

@@ -1,63 +1,16 @@
 // The calls on a bus: each goes through the parties once, meets its refusal or has its effect, and hands the bus back in its answer.
 ghost use mathlib.Core.Path.{_≡_};
-ghost use Rattle.bus.specs.Step.{effect};
-ghost use Rattle.bus.specs.Machine.{effectOf, call};
-use crate::After;
+ghost use Rattle.bus.specs.Machine.{call};
 use crate::Answer;
 use crate::Bus;
-use crate::Call;
-use crate::Effect;
-use crate::Said;
-use crate::Standing;
-use crate::acceptor_step::acceptor_step;
-use crate::host_calls;
-use crate::refusals::is_inside;
-use crate::refusals::is_on;
-use crate::refusals::judged;
-use crate::source_step::source_step;
-use parties::Scan;
+use effect::After;
+use effect::Call;
+use effect::accepted::effect_of;
+use effect::refusals::is_inside;
+use effect::refusals::judged;
 use parties::every::scan;
 use parties::every::slot;
-use party::Control;
-use party::Event;
-use party::Party;
 use party::Place;
-use party::Slot;
-
-// A source takes the source step, any other party the acceptor step.
-fn stepped(s: Scan, st: Standing, i: Place, p: Party) -> Effect
-    ensures { λ r. ⌜ r ≡ effect (s .lines) (s .talker) st i p ⌝ }
-{
-    let l = s.lines;
-    let talker = s.talker;
-    if p.is_source(l.atn) {
-        source_step(l, talker, st, i, p)
-    } else {
-        acceptor_step(l, st, p)
-    }
-}
-
-// What an accepted call does to its party p.
-fn effect_of(c: Call, s: Scan, st: Standing, p: Party) -> Effect
-    ensures { λ r. ⌜ r ≡ effectOf (s .lines) (s .talker) st p c ⌝ }
-{
-    let l = s.lines;
-    let input = p.input;
-    match c {
-        Call::Step(i) => stepped(s, st, i, p),
-        Call::Write(_, v, e) => Effect::quiet(0, st, p.with_held(Slot::Full(v, is_on(e)))),
-        Call::Read(_) => host_calls::taken_out(input, st, p),
-        Call::PollRegister(_, v) => host_calls::registered(v, st, p),
-        Call::ListenOnly(_, on) => host_calls::listening(is_on(on), l, st, p),
-        Call::TalkOnly(_, on) => host_calls::talking(is_on(on), st, p),
-        Call::TakeControl(_) => host_calls::in_control(Control::Active, st, p),
-        Call::GoToStandby(_) => host_calls::in_control(Control::Standby, st, p),
-        Call::InterfaceClear(_) => host_calls::cleared(st, p),
-        Call::Reset(_) => host_calls::reset(l, st, p),
-        Call::Drop(_) => Effect::quiet(p.held_bytes(), st, p.with_held(Slot::Empty)),
-        Call::Lines => Effect::does(Said::say(Event::Lines, l.byte(), false, 0), p, st),
-    }
-}
 
 impl Bus {
     // Any operation other than build.

@@ -1,7 +1,7 @@
 // Document 01's example script through the calls: a talker sends one byte to a listener. A line is printed for each answer.
 use bus::Answer;
 use bus::Bus;
-use bus::Refusal;
+use effect::Refusal;
 use libc::STDOUT_FILENO;
 use party::Event;
 use party::Place;

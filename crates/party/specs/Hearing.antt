@@ -10,20 +10,13 @@ use Rattle.party.specs.Parts.{withFlags, withPollMode}
 abbrev pub own : Address → Role → Bool
 own a r = eqb (a .0) (r .address .0)
 
--- "Own listen address: listen on, talk off."
-abbrev pub hearListen : Bool → Role → Role
-hearListen mine r = cond mine (withFlags false true r) r
-
--- "Own talk address: talk on, listen off. Another talk address ..: talk off."
-abbrev pub hearTalk : Bool → Role → Role
-hearTalk mine r = cond mine (withFlags true false r) (withFlags false (r .listen) r)
-
--- The role that hearing leaves. "UNL: listen off." "UNT: talk off. SPE, SPD: poll mode on, off." "TCT does nothing when heard".
+-- The role that hearing leaves. "Own listen address: listen on, talk off. UNL: listen off. Own talk address: talk on, listen off. Another talk address
+-- or UNT: talk off. SPE, SPD: poll mode on, off." "TCT does nothing when heard".
 abbrev pub hear : Meaning → Role → Role
 hear Other r = r
-hear (Listen a) r = hearListen (own a r) r
+hear (Listen a) r = cond (own a r) (withFlags false true r) r
 hear Unlisten r = withFlags (r .talk) false r
-hear (Talk a) r = hearTalk (own a r) r
+hear (Talk a) r = cond (own a r) (withFlags true false r) (withFlags false (r .listen) r)
 hear Untalk r = withFlags false (r .listen) r
 hear Sdc r = r
 hear Get r = r

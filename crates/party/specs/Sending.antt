@@ -2,7 +2,7 @@
 -- Assumes nothing.
 use Prim.Native.Nat.{ℕ, _+_, _*_, _/_, _%_}
 use mathlib.Core.Bool.{Bool, false, not, cond, _&&_, _||_}
-use Rattle.party.specs.Types.{Party, Request, Service, Nprs, Srqs, Aprs, Slot, Empty, Full, Kind, Command, Data, Status, Event, Sgns, Strs}
+use Rattle.party.specs.Types.{Party, Request, Service, Nprs, Srqs, Aprs, Slot, Empty, Full, Kind, Command, Data, Status, Event, Source}
 use Rattle.party.specs.Types.ev
 use Rattle.party.specs.Parts.{withSource, withHeld}
 use Rattle.party.specs.Driving.{isActive}
@@ -49,13 +49,10 @@ spent Command s = Empty
 spent Data s = Empty
 spent Status s = s
 
--- "put: to STRS, the byte stands, and leaves the held register if it came from there"
-abbrev pub afterPut : Kind → Party → Party
-afterPut k p = withSource Strs (withHeld (spent k (p .held)) p)
-
--- "event noacc, to SGNS, and the held byte is dropped if it was the one on offer"
-abbrev pub afterNoacc : Kind → Party → Party
-afterNoacc k p = withSource Sgns (withHeld (spent k (p .held)) p)
+-- The sender once its byte has left it. "put: to STRS, the byte stands, and leaves the held register if it came from there"; "event noacc, to SGNS,
+-- and the held byte is dropped if it was the one on offer"
+abbrev pub parted : Kind → Source → Party → Party
+parted k to p = withSource to (withHeld (spent k (p .held)) p)
 
 abbrev pub noaccDrops : Kind → ℕ
 noaccDrops Command = 1

@@ -1,6 +1,6 @@
 // Hearing: what a command does to who hears it.
 ghost use mathlib.Core.Path.{_≡_};
-ghost use Rattle.party.specs.Hearing.{own, hearListen, hearTalk, hear, hearEvent, passesControl};
+ghost use Rattle.party.specs.Hearing.{own, hear, hearEvent, passesControl};
 use crate::Event;
 use crate::Role;
 use message::Address;
@@ -14,35 +14,23 @@ impl Role {
         a.0 == mine.0
     }
 
-    fn heard_listen(self, mine: bool) -> Role
-        ensures { λ r. ⌜ r ≡ hearListen mine self ⌝ }
-    {
-        if mine {
-            self.with_flags(false, true)
-        } else {
-            self
-        }
-    }
-
-    fn heard_talk(self, mine: bool) -> Role
-        ensures { λ r. ⌜ r ≡ hearTalk mine self ⌝ }
-    {
-        if mine {
-            self.with_flags(true, false)
-        } else {
-            self.with_flags(false, self.listen)
-        }
-    }
-
     // The role of who has heard a command.
     pub fn heard(self, m: Meaning) -> Role
         ensures { λ r. ⌜ r ≡ hear m self ⌝ }
     {
         match m {
             Meaning::Other => self,
-            Meaning::Listen(a) => self.heard_listen(self.owns(a)),
+            Meaning::Listen(a) => if self.owns(a) {
+                self.with_flags(false, true)
+            } else {
+                self
+            },
             Meaning::Unlisten => self.with_flags(self.talk, false),
-            Meaning::Talk(a) => self.heard_talk(self.owns(a)),
+            Meaning::Talk(a) => if self.owns(a) {
+                self.with_flags(true, false)
+            } else {
+                self.with_flags(false, self.listen)
+            },
             Meaning::Untalk => self.with_flags(false, self.listen),
             Meaning::Sdc => self,
             Meaning::Get => self,

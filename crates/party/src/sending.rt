@@ -1,8 +1,7 @@
 // What a source offers, and what putting and dropping it leave of the party.
 ghost use mathlib.Core.Path.{_≡_};
-ghost use mathlib.Core.Bool.{not, _&&_, _||_};
 ghost use Prim.Native.Nat.{_≤_};
-ghost use Rattle.party.specs.Sending.{isSource, isPolled, aprsBit, status, offer, kindOf, endOf, putEvent, spent, afterPut, afterNoacc, noaccDrops};
+ghost use Rattle.party.specs.Sending.{isSource, isPolled, aprsBit, status, offer, kindOf, endOf, putEvent, spent, parted, noaccDrops};
 use crate::Event;
 use crate::Kind;
 use crate::Party;
@@ -10,18 +9,6 @@ use crate::Request;
 use crate::Service;
 use crate::Slot;
 use crate::Source;
-
-fn sources(active: bool, atn: bool, talk: bool) -> bool
-    ensures { λ r. ⌜ r ≡ (active || (not atn && talk)) ⌝ }
-{
-    if active {
-        true
-    } else if atn {
-        false
-    } else {
-        talk
-    }
-}
 
 impl Service {
     fn aprs_bit(self) -> u8
@@ -109,7 +96,13 @@ impl Party {
         ensures { λ r. ⌜ r ≡ isSource atn self ⌝ }
     {
         let role = self.role;
-        sources(self.is_active(), atn, role.talk)
+        if self.is_active() {
+            true
+        } else if atn {
+            false
+        } else {
+            role.talk
+        }
     }
 
     pub fn is_polled(self, atn: bool) -> bool
@@ -137,19 +130,11 @@ impl Party {
         }
     }
 
-    // The sender once its byte of this kind stands.
-    pub fn after_put(self, kind: Kind) -> Party
-        ensures { λ r. ⌜ r ≡ afterPut kind self ⌝ }
+    // The sender once its byte of this kind has left it: it goes to STRS where the byte stands, to SGNS where nobody accepted it.
+    pub fn parts(self, kind: Kind, to: Source) -> Party
+        ensures { λ r. ⌜ r ≡ parted kind to self ⌝ }
     {
         let held = self.held;
-        self.with_held(kind.spends(held)).with_source(Source::Strs)
-    }
-
-    // The sender once nobody accepted its byte of this kind.
-    pub fn after_noacc(self, kind: Kind) -> Party
-        ensures { λ r. ⌜ r ≡ afterNoacc kind self ⌝ }
-    {
-        let held = self.held;
-        self.with_held(kind.spends(held)).with_source(Source::Sgns)
+        self.with_held(kind.spends(held)).with_source(to)
     }
 }

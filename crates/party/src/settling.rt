@@ -1,6 +1,6 @@
 // Attention and settling, of one party.
 ghost use mathlib.Core.Path.{_≡_};
-ghost use Rattle.party.specs.Settling.{attendedAcceptor, attended, sourceSettled, rsv, serviceSettled, liveSettled, requestSettled, settled};
+ghost use Rattle.party.specs.Settling.{attendedAcceptor, attended, sourceSettled, serviceSettled, liveSettled, requestSettled, settled};
 use crate::Acceptor;
 use crate::Party;
 use crate::Request;
@@ -76,26 +76,21 @@ impl Service {
     }
 }
 
-// Bit 64 of the live register.
-fn rsv_of(live: u8) -> bool
-    ensures { λ r. ⌜ r ≡ rsv live ⌝ }
-{
-    live / 64 % 2 == 1
-}
-
 impl Request {
+    // Unless polled, live becomes saved.
     fn live_settled(self, polled: bool) -> u8
         ensures { λ r. ⌜ r ≡ liveSettled polled self ⌝ }
     {
         if polled { self.live } else { self.saved }
     }
 
+    // Then rsv, bit 64 of live, moves the service.
     fn settled(self, polled: bool) -> Request
         ensures { λ r. ⌜ r ≡ requestSettled polled self ⌝ }
     {
         let before = self.service;
         let live = self.live_settled(polled);
-        let service = before.settled(rsv_of(live), polled);
+        let service = before.settled(live / 64 % 2 == 1, polled);
         Request {
             live,
             saved: self.saved,

@@ -1,44 +1,50 @@
+use mathlib.Core.Path.{sym, _∙_}
 use borrow.Author.Needs.{needs}
 use Rattle.party.proofs.Party.cleared.Statement.{statement}
 use Rattle.party.proofs.Party.cleared.Tie as tie
 
-is-active-requires : tie.Need-is-active-requires
-is-active-requires c κs = search needs
-
-held-unless-requires : tie.Need-held-unless-requires
-held-unless-requires c κs = search needs
-
-with-held-requires : tie.Need-with-held-requires
-with-held-requires c κs = search needs
-
 with-control-requires : tie.Need-with-control-requires
 with-control-requires c κs = search needs
 
-flags-off-requires : tie.Need-flags-off-requires
-flags-off-requires c κs = search needs
+unaddressed-requires : tie.Need-unaddressed-requires
+unaddressed-requires c κs = search needs
 
 with-role-requires : tie.Need-with-role-requires
 with-role-requires c κs = search needs
 
+is-active-requires : tie.Need-is-active-requires
+is-active-requires c κs = search needs
+
+with-held-requires : tie.Need-with-held-requires
+with-held-requires c κs = search needs
+
 returns : tie.Need-returns
 returns c =
     simp (
-      c .with-role .ensures,
-      c .before .flags-off .ensures,
-      c .before .before .with-control .ensures,
-      c .before .before .before .with-held .ensures,
-      c .before .before .before .before .held-unless .ensures,
-      c .before .before .before .before .before .is-active .ensures,
+      c .with-held .ensures,
+      sym (c .before .before .is-active .ensures) ∙ c .before .if1 .taken,
+      c .before .before .before .with-role .ensures,
+      c .before .before .before .before .unaddressed .ensures,
+      c .before .before .before .before .before .with-control .ensures,
+    )
+
+returns-2 : tie.Need-returns-2
+returns-2 c =
+    simp (
+      sym (c .before .is-active .ensures) ∙ c .if1 .left,
+      c .before .before .with-role .ensures,
+      c .before .before .before .unaddressed .ensures,
+      c .before .before .before .before .with-control .ensures,
     )
 
 pub cleared-spec : {M : Type 1} → statement M
 cleared-spec =
     tie.close
     (tie.spec
-    is-active-requires
-    held-unless-requires
-    with-held-requires
     with-control-requires
-    flags-off-requires
+    unaddressed-requires
     with-role-requires
-    returns)
+    is-active-requires
+    with-held-requires
+    returns
+    returns-2)

@@ -11,8 +11,8 @@ with-held-requires c κs = search needs
 with-control-requires : tie.Need-with-control-requires
 with-control-requires c κs = search needs
 
-flags-off-requires : tie.Need-flags-off-requires
-flags-off-requires c κs = search needs
+unaddressed-requires : tie.Need-unaddressed-requires
+unaddressed-requires c κs = search needs
 
 with-role-requires : tie.Need-with-role-requires
 with-role-requires c κs = search needs
@@ -21,7 +21,7 @@ returns : tie.Need-returns
 returns c =
     simp (
       c .with-role .ensures,
-      c .before .flags-off .ensures,
+      c .before .unaddressed .ensures,
       c .before .before .with-control .ensures,
       c .before .before .before .with-held .ensures,
       c .before .before .before .before .with-input .ensures,
@@ -34,6 +34,6 @@ wiped-spec =
     with-input-requires
     with-held-requires
     with-control-requires
-    flags-off-requires
+    unaddressed-requires
     with-role-requires
     returns)

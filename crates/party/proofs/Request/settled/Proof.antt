@@ -5,19 +5,11 @@ use Rattle.party.proofs.Request.settled.Tie as tie
 live-settled-requires : tie.Need-live-settled-requires
 live-settled-requires c κs = search needs
 
-rsv-of-requires : tie.Need-rsv-of-requires
-rsv-of-requires c κs = search needs
-
 settled-requires : tie.Need-settled-requires
 settled-requires c κs = search needs
 
 returns : tie.Need-returns
-returns c =
-    simp (
-      c .settled .ensures,
-      c .before .rsv-of .ensures,
-      c .before .before .live-settled .ensures,
-    )
+returns c = simp (c .settled .ensures, c .before .live-settled .ensures)
 
 pub settled-spec : {M : Type 1} → statement M
-settled-spec = tie.close (tie.spec live-settled-requires rsv-of-requires settled-requires returns)
+settled-spec = tie.close (tie.spec live-settled-requires settled-requires returns)

@@ -1,3 +1,4 @@
+use mathlib.Core.Path.{sym, _∙_}
 use borrow.Author.Needs.{needs}
 use Rattle.party.proofs.Role.heard.Statement.{statement}
 use Rattle.party.proofs.Role.heard.Tie as tie
@@ -11,14 +12,14 @@ enum-known-m c = search needs
 owns-requires : tie.Need-owns-requires
 owns-requires c κs = search needs
 
-heard-listen-requires : tie.Need-heard-listen-requires
-heard-listen-requires c κs = search needs
+with-flags-requires : tie.Need-with-flags-requires
+with-flags-requires c κs = search needs
 
 enum-told-2 : tie.Need-enum-told-2
 enum-told-2 c = search needs
 
-with-flags-requires : tie.Need-with-flags-requires
-with-flags-requires c κs = search needs
+with-flags-requires-2 : tie.Need-with-flags-requires-2
+with-flags-requires-2 c κs = search needs
 
 enum-known-m-2 : tie.Need-enum-known-m-2
 enum-known-m-2 c = search needs
@@ -26,14 +27,17 @@ enum-known-m-2 c = search needs
 owns-requires-2 : tie.Need-owns-requires-2
 owns-requires-2 c κs = search needs
 
-heard-talk-requires : tie.Need-heard-talk-requires
-heard-talk-requires c κs = search needs
+with-flags-requires-3 : tie.Need-with-flags-requires-3
+with-flags-requires-3 c κs = search needs
+
+with-flags-requires-4 : tie.Need-with-flags-requires-4
+with-flags-requires-4 c κs = search needs
 
 enum-told-3 : tie.Need-enum-told-3
 enum-told-3 c = search needs
 
-with-flags-requires-2 : tie.Need-with-flags-requires-2
-with-flags-requires-2 c κs = search needs
+with-flags-requires-5 : tie.Need-with-flags-requires-5
+with-flags-requires-5 c κs = search needs
 
 enum-told-4 : tie.Need-enum-told-4
 enum-told-4 c = search needs
@@ -63,40 +67,30 @@ returns : tie.Need-returns
 returns c = search needs
 
 returns-2 : tie.Need-returns-2
-returns-2 c =
-    simp (
-      c .heard-listen .ensures,
-      c .before .owns .ensures,
-      c .before .before .before .m .given .1,
-    )
+returns-2 c = simp (c .with-flags .ensures, sym (c .before .before .owns .ensures) ∙ c .before .if1 .taken, c .before .before .before .before .m .given .1)
 
 returns-3 : tie.Need-returns-3
-returns-3 c =
-    simp (
-      c .with-flags .ensures,
-      c .before .enum-told2 .given .1,
-    )
+returns-3 c = simp (sym (c .before .owns .ensures) ∙ c .if1 .left, c .before .before .before .m .given .1)
 
 returns-4 : tie.Need-returns-4
 returns-4 c =
     simp (
-      c .heard-talk .ensures,
-      c .before .owns2 .ensures,
-      c .before .before .before .m2 .given .1,
+      c .with-flags2 .ensures,
+      c .before .enum-told2 .given .1,
     )
 
 returns-5 : tie.Need-returns-5
-returns-5 c =
-    simp (
-      c .with-flags2 .ensures,
-      c .before .enum-told3 .given .1,
-    )
+returns-5 c = simp (c .with-flags3 .ensures, sym (c .before .before .owns2 .ensures) ∙ c .before .if2 .taken, c .before .before .before .before .m2 .given .1)
 
 returns-6 : tie.Need-returns-6
-returns-6 c = search needs
+returns-6 c = simp (c .with-flags4 .ensures, sym (c .before .before .owns2 .ensures) ∙ c .before .if2 .left, c .before .before .before .before .m2 .given .1)
 
 returns-7 : tie.Need-returns-7
-returns-7 c = search needs
+returns-7 c =
+    simp (
+      c .with-flags5 .ensures,
+      c .before .enum-told3 .given .1,
+    )
 
 returns-8 : tie.Need-returns-8
 returns-8 c = search needs
@@ -105,14 +99,20 @@ returns-9 : tie.Need-returns-9
 returns-9 c = search needs
 
 returns-10 : tie.Need-returns-10
-returns-10 c =
+returns-10 c = search needs
+
+returns-11 : tie.Need-returns-11
+returns-11 c = search needs
+
+returns-12 : tie.Need-returns-12
+returns-12 c =
     simp (
       c .with-poll-mode .ensures,
       c .before .enum-told8 .given .1,
     )
 
-returns-11 : tie.Need-returns-11
-returns-11 c =
+returns-13 : tie.Need-returns-13
+returns-13 c =
     simp (
       c .with-poll-mode2 .ensures,
       c .before .enum-told9 .given .1,
@@ -125,14 +125,15 @@ heard-spec =
     enum-told
     enum-known-m
     owns-requires
-    heard-listen-requires
-    enum-told-2
     with-flags-requires
+    enum-told-2
+    with-flags-requires-2
     enum-known-m-2
     owns-requires-2
-    heard-talk-requires
+    with-flags-requires-3
+    with-flags-requires-4
     enum-told-3
-    with-flags-requires-2
+    with-flags-requires-5
     enum-told-4
     enum-told-5
     enum-told-6
@@ -151,4 +152,6 @@ heard-spec =
     returns-8
     returns-9
     returns-10
-    returns-11)
+    returns-11
+    returns-12
+    returns-13)

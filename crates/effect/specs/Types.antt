@@ -1,0 +1,35 @@
+-- The types that the machine speaks of, and their cases, under one name.
+pub use Rattle.message.specs.declared.Address.{Address}
+pub use Rattle.message.specs.declared.Meaning.{Meaning}
+pub use Rattle.party.specs.declared.Place.{Place}
+pub use Rattle.party.specs.declared.Control.{Control}
+pub use Rattle.party.specs.declared.Control.the-variants.{Idle, Standby, Active}
+pub use Rattle.party.specs.declared.Source.{Source}
+pub use Rattle.party.specs.declared.Source.the-variants.{Sids, Sgns, Sdys, Strs}
+pub use Rattle.party.specs.declared.Acceptor.{Acceptor}
+pub use Rattle.party.specs.declared.Acceptor.the-variants.{Aids, Anrs, Acrs, Acds, Awns}
+pub use Rattle.party.specs.declared.Service.{Service}
+pub use Rattle.party.specs.declared.Service.the-variants.{Nprs, Srqs, Aprs}
+pub use Rattle.party.specs.declared.Slot.{Slot}
+pub use Rattle.party.specs.declared.Slot.the-variants.{Empty, Full}
+pub use Rattle.party.specs.declared.Kind.{Kind}
+pub use Rattle.party.specs.declared.Kind.the-variants.{Command, Data, Status}
+pub use Rattle.party.specs.declared.Event.{Event}
+pub use Rattle.party.specs.declared.Event.the-variants as ev
+pub use Rattle.party.specs.declared.Role.{Role}
+pub use Rattle.party.specs.declared.Request.{Request}
+pub use Rattle.party.specs.declared.Party.{Party}
+pub use Rattle.parties.specs.declared.Lines.{Lines}
+pub use Rattle.parties.specs.declared.Scan.{Scan}
+pub use Rattle.parties.specs.declared.Found.{Found}
+pub use Rattle.parties.specs.declared.Found.the-variants.{Nowhere, At}
+pub use Rattle.effect.specs.declared.Standing.{Standing}
+pub use Rattle.effect.specs.declared.Standing.the-variants.{Nothing, Byte}
+pub use Rattle.effect.specs.declared.Refusal.{Refusal}
+pub use Rattle.effect.specs.declared.Refusal.the-variants as ruling
+pub use Rattle.effect.specs.declared.Call.{Call}
+pub use Rattle.effect.specs.declared.Call.the-variants as call-of
+pub use Rattle.effect.specs.declared.Said.{Said}
+pub use Rattle.effect.specs.declared.After.{After}
+pub use Rattle.effect.specs.declared.After.the-variants as after
+pub use Rattle.effect.specs.declared.Effect.{Effect}

@@ -1,0 +1,23 @@
+use borrow.Author.Needs.{needs}
+use Rattle.party.proofs.Party.parts.Statement.{statement}
+use Rattle.party.proofs.Party.parts.Tie as tie
+
+spends-requires : tie.Need-spends-requires
+spends-requires c κs = search needs
+
+with-held-requires : tie.Need-with-held-requires
+with-held-requires c κs = search needs
+
+with-source-requires : tie.Need-with-source-requires
+with-source-requires c κs = search needs
+
+returns : tie.Need-returns
+returns c =
+    simp (
+      c .with-source .ensures,
+      c .before .with-held .ensures,
+      c .before .before .spends .ensures,
+    )
+
+pub parts-spec : {M : Type 1} → statement M
+parts-spec = tie.close (tie.spec spends-requires with-held-requires with-source-requires returns)
