@@ -4,16 +4,12 @@ use mathlib.Core.Path.{_≡_, refl, sym, ap, _∙_}
 use mathlib.Core.Bool.{Bool, true, false, _||_}
 use mathlib.Core.List.{List, [], _∷_}
 use Prim.Native.Nat.{ℕ, zero, suc, _+_, _≤_, _<_}
-use native.Mathlib.Omega.{arith}
 use native.Mathlib.Numerals.{add-one}
 use native.Mathlib.Nat.{not-suc-le-zero, le-of-suc-le-suc}
-use lib.Dec.{ltb}
 use lib.ListN.{length, getD, set, take, drop, drop-of-length-le}
 use lib.Seq.{drop-cons, take-all}
 use Rattle.message.specs.Meaning.{address}
 use Rattle.party.specs.Parts.{newborn}
-use Rattle.party.proofs.Logic.{test}
-use Rattle.parties.specs.Places.{within}
 use Rattle.parties.proofs.Loops.{or-assoc}
 use Rattle.bus.specs.Types.{Party}
 use Rattle.bus.specs.Record.{placed}

@@ -1,7 +1,7 @@
 -- What a call reads at a slot of the array is what the machine reads at the place; and how a call's answer is put together.
 -- Assumes nothing.
 use mathlib.Core.Path.{_≡_, refl, sym, ap, _∙_}
-use mathlib.Core.Bool.{Bool, true, false, not, cond, _&&_, _||_}
+use mathlib.Core.Bool.{Bool, true, false, not}
 use mathlib.Core.List.{List}
 use Prim.Native.Nat.{ℕ, _≤_}
 use native.Mathlib.Omega.{arith}
@@ -14,7 +14,6 @@ use Rattle.party.proofs.Logic.{no, test}
 use Rattle.parties.specs.Places.{at, slot, otherTalker, isFound}
 use Rattle.parties.specs.Lines.{scanOf}
 use Rattle.bus.specs.Types.{Place, Party, Scan, Standing, Nothing, Byte, Bus, Call, Refusal, After, Effect}
-use Rattle.bus.specs.Types.ruling
 use Rattle.bus.specs.Types.call-of
 use Rattle.bus.specs.Types.after
 use Rattle.effect.specs.Words.{isAccepted}

@@ -1,16 +1,16 @@
 -- The bus record, what stands on it, and building it (document 01, "The bus record").
 -- Assumes nothing.
 use Prim.Native.Nat.{ℕ, zero, suc}
-use mathlib.Core.Bool.{Bool, true, false, not, cond, _||_}
+use mathlib.Core.Bool.{Bool, false, not, cond, _||_}
 use mathlib.Core.List.{List, [], _∷_}
 use lib.Dec.{ltb, eqb}
 use lib.ListN.{length}
 use Rattle.message.specs.Meaning.{address}
 use Rattle.party.specs.Parts.{idle, newborn}
-use Rattle.parties.specs.Places.{place, at, slot}
+use Rattle.parties.specs.Places.{place, at}
 use Rattle.parties.specs.Lines.{linesOf}
 use Rattle.effect.specs.Stands.{hasEnd}
-use Rattle.bus.specs.Types.{Place, Party, Kind, Command, Data, Status, Lines, Standing, Nothing, Byte, Bus, Answer, Refusal}
+use Rattle.bus.specs.Types.{Place, Party, Lines, Nothing, Bus, Answer, Refusal}
 use Rattle.bus.specs.Types.ruling
 use Rattle.bus.specs.Types.ev
 

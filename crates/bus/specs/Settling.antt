@@ -1,15 +1,13 @@
 -- Attention and settling of the whole bus (document 01, "Attention and settling").
 -- Assumes nothing.
-use Prim.Native.Nat.{ℕ}
-use mathlib.Core.Bool.{Bool, true, false, not, cond}
-use lib.Dec.{ltb}
+use mathlib.Core.Bool.{Bool, false, not, cond}
 use mathlib.Core.List.{List}
 use Rattle.party.specs.Parts.{one}
 use Rattle.party.specs.Driving.{isActive}
 use Rattle.party.specs.Sending.{isSource}
 use Rattle.party.specs.Settling.{attended, settled}
 use Rattle.parties.specs.Places.{at, some, each}
-use Rattle.bus.specs.Types.{Party, Event, Standing, Nothing, Byte, Bus, Answer, Said}
+use Rattle.bus.specs.Types.{Party, Standing, Nothing, Byte, Bus, Answer, Said}
 use Rattle.bus.specs.Types.ruling
 use Rattle.effect.specs.Stands.{stands}
 

@@ -3,7 +3,6 @@ ghost use mathlib.Core.Path.{_≡_};
 ghost use mathlib.Core.Bool.{not, _&&_, _||_};
 ghost use Prim.Native.Nat.{_+_, _≤_, _<_};
 ghost use lib.ListN.{set};
-ghost use Rattle.party.specs.Parts.{idle};
 ghost use Rattle.party.specs.Clearing.{clearDrops};
 ghost use Rattle.parties.specs.Places.{at, some, each, total, within, slot, seek, changed, isFound};
 ghost use Rattle.parties.specs.Lines.{driven, scanOf};

@@ -2,7 +2,6 @@
 ghost use mathlib.Core.Path.{_≡_};
 ghost use Prim.Native.Nat.{_≤_};
 ghost use Rattle.parties.specs.Lines.{weight, linesByte};
-use party::Party;
 use party::Place;
 
 pub mod every;

@@ -1,6 +1,5 @@
 // A party of the bus: its states, and what one party drives, hears, offers and settles to.
 ghost use mathlib.Core.Path.{_≡_};
-ghost use Rattle.message.specs.Meaning.{meaning};
 ghost use Rattle.party.specs.Parts.{newborn, unaddressed};
 use message::Address;
 

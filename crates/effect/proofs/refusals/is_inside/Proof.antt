@@ -1,5 +1,4 @@
 use borrow.Author.Tests.{lt-ltb, le-ltb}
-use borrow.Author.Needs.{needs}
 use Rattle.effect.proofs.refusals.is_inside.Statement.{statement}
 use Rattle.effect.proofs.refusals.is_inside.Tie as tie
 
