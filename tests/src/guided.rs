@@ -1,0 +1,321 @@
+//! Random scripts that look at the model's state to go where bytes stand.
+
+use std::collections::VecDeque;
+
+use crate::model::{Acceptor, Bus, Control, Event};
+use crate::plan::{any_party, controller, likely_command, likely_register, scenario, Goal};
+use crate::random::Random;
+use crate::script::{self, Record, BUILD, CLEAR, LINES, LISTEN, POLL, READ, RESET, STANDBY};
+use crate::script::{STEP, TAKE, TALK, WRITE};
+
+/// How one script behaves, in times per thousand.
+#[derive(Clone, Copy)]
+struct Habits {
+    disturb: usize,
+    wild: usize,
+    idle_steps: usize,
+    reads: usize,
+}
+
+pub struct Guided {
+    random: Random,
+    bus: Bus,
+    script: Vec<u8>,
+    plan: VecDeque<Goal>,
+    habits: Habits,
+}
+
+impl Guided {
+    pub fn new(seed: u64) -> Guided {
+        let habits = Habits {
+            disturb: 0,
+            wild: 0,
+            idle_steps: 0,
+            reads: 0,
+        };
+        Guided {
+            random: Random::new(seed),
+            bus: Bus::new(),
+            script: Vec::new(),
+            plan: VecDeque::new(),
+            habits,
+        }
+    }
+
+    /// The next script; most end well, some with a bad record.
+    pub fn script(&mut self) -> &[u8] {
+        self.begin(&[]);
+        self.draw_habits();
+        self.opening();
+        for _ in 0..30 + self.random.below(300 + 40 * self.bus.count) {
+            self.next_call();
+        }
+        if self.random.per_mille(120) {
+            self.bad_ending();
+        }
+        &self.script
+    }
+
+    /// The records given, then `more` calls of all sorts, then the lines.
+    pub fn go_on(&mut self, records: &[Record], more: usize) -> &[u8] {
+        self.begin(records);
+        self.habits = Habits {
+            disturb: 450,
+            wild: 0,
+            idle_steps: 250,
+            reads: 500,
+        };
+        for _ in 0..more {
+            self.next_call();
+        }
+        self.call(script::record(LINES, 0, 0, 0));
+        &self.script
+    }
+
+    fn begin(&mut self, records: &[Record]) {
+        self.script.clear();
+        self.plan.clear();
+        self.bus = Bus::new();
+        for record in records {
+            self.call(*record);
+        }
+    }
+
+    fn draw_habits(&mut self) {
+        let random = &mut self.random;
+        self.habits = Habits {
+            disturb: random.pick(&[0, 20, 60, 150, 400]),
+            wild: random.pick(&[0, 0, 0, 5, 30, 300]),
+            idle_steps: random.pick(&[0, 20, 100, 400]),
+            reads: random.pick(&[50, 300, 900]),
+        };
+    }
+
+    fn opening(&mut self) {
+        while self.random.per_mille(60) {
+            let record = self.wild_record();
+            self.call(record);
+        }
+        while self.random.per_mille(60) {
+            self.bad_build();
+        }
+        self.good_build();
+    }
+
+    fn good_build(&mut self) {
+        let random = &mut self.random;
+        let count = match random.below(20) {
+            0 => 1,
+            1..=7 => 2,
+            8..=13 => 3,
+            14..=16 => 4,
+            17..=18 => 1 + random.below(15),
+            _ => random.pick(&[14, 15]),
+        };
+        let first = match random.below(4) {
+            0 => 0,
+            1 => 31 - count,
+            _ => random.below(32 - count),
+        };
+        let system = random.below(count);
+        self.call(script::record(
+            BUILD,
+            system as u8,
+            count as u8,
+            first as u8,
+        ));
+    }
+
+    fn bad_build(&mut self) {
+        let random = &mut self.random;
+        let count = 1 + random.below(15) as u8;
+        let record = match random.below(5) {
+            0 => script::record(BUILD, random.below(2) as u8, 0, random.below(31) as u8),
+            1 => script::record(BUILD, 0, 16 + random.below(240) as u8, 0),
+            2 => script::record(BUILD, 0, count, 32 - count),
+            3 => script::record(BUILD, 0, count, 31 + random.below(225) as u8),
+            _ => script::record(BUILD, count + random.below(240) as u8, count, 0),
+        };
+        self.call(record);
+    }
+
+    /// A wrong mark, a short tail, or both.
+    fn bad_ending(&mut self) {
+        let mut record = self.wild_record();
+        if self.random.per_mille(500) {
+            record[self.random.below(2)] = self.random.byte();
+        }
+        let end = 1 + self.random.below(6);
+        self.script.extend_from_slice(&record[..end]);
+    }
+
+    fn call(&mut self, record: Record) {
+        script::run_record(&mut self.bus, record);
+        self.script.extend_from_slice(&record);
+    }
+
+    fn next_call(&mut self) {
+        let record = if self.random.per_mille(self.habits.wild) {
+            self.wild_record()
+        } else if self.random.per_mille(self.habits.disturb) {
+            self.disturbance()
+        } else if self.bus.count == 0 {
+            return self.good_build();
+        } else {
+            self.planned()
+        };
+        self.call(record);
+    }
+
+    /// Any operation with any fields; seldom a build.
+    fn wild_record(&mut self) -> Record {
+        let random = &mut self.random;
+        let mut operation = random.field(16);
+        if operation == BUILD && random.per_mille(800) {
+            operation = LINES;
+        }
+        let (party, value, extra) = (random.field(17), random.field(17), random.field(32));
+        script::record(operation, party, value, extra)
+    }
+
+    /// A call that fits no plan, its arguments mostly in range.
+    fn disturbance(&mut self) -> Record {
+        let random = &mut self.random;
+        let count = self.bus.count as u8;
+        let party = match random.below(40) {
+            0 => count,
+            1 => random.byte(),
+            2..=12 => controller(&self.bus),
+            _ => any_party(&self.bus, random),
+        };
+        let switch = match random.below(30) {
+            0 => 2,
+            1 => random.byte(),
+            _ => random.below(2) as u8,
+        };
+        let operation = 1 + random.below(12) as u8;
+        let (value, extra) = match operation {
+            WRITE => (likely_command(&self.bus, random), switch),
+            POLL => (likely_register(random), random.byte()),
+            LISTEN | TALK => (switch, random.byte()),
+            _ => (random.byte(), random.byte()),
+        };
+        script::record(operation, party, value, extra)
+    }
+
+    fn planned(&mut self) -> Record {
+        loop {
+            let Some(goal) = self.plan.pop_front() else {
+                self.plan.extend(scenario(&self.bus, &mut self.random));
+                continue;
+            };
+            if let Some(record) = self.toward(goal) {
+                return record;
+            }
+        }
+    }
+
+    /// The next call toward a goal; None if the goal is reached or out of reach.
+    fn toward(&mut self, goal: Goal) -> Option<Record> {
+        let active = self
+            .bus
+            .present()
+            .iter()
+            .position(|party| party.is_active());
+        match goal {
+            Goal::Call(operation, party, value, extra) => {
+                Some(script::record(operation, party, value, extra))
+            }
+            Goal::Gain if active.is_some() => None,
+            Goal::Gain => Some(self.gain()),
+            Goal::Release => active.map(|place| script::record(STANDBY, place as u8, 0, 0)),
+            Goal::Command(byte) => self.command(active?, byte),
+            Goal::Data => self.data(),
+            Goal::Finish(left) | Goal::Walk(left) if left == 0 => None,
+            Goal::Finish(left) => {
+                if !self.pending() {
+                    return None;
+                }
+                self.plan.push_front(Goal::Finish(left - 1));
+                Some(self.walk())
+            }
+            Goal::Walk(left) => {
+                self.plan.push_front(Goal::Walk(left - 1));
+                Some(self.walk())
+            }
+        }
+    }
+
+    fn gain(&mut self) -> Record {
+        let party = controller(&self.bus);
+        let place = usize::from(party);
+        let clears = place == self.bus.system && self.random.per_mille(150);
+        let standby = self.bus.parties[place].control == Control::Standby;
+        let operation = if standby && !clears { TAKE } else { CLEAR };
+        script::record(operation, party, 0, 0)
+    }
+
+    fn command(&mut self, active: usize, byte: u8) -> Option<Record> {
+        let finish = Goal::Finish(8 * self.bus.count + 8);
+        if self.pending() {
+            self.plan.push_front(Goal::Command(byte));
+            self.plan.push_front(finish);
+            if self.random.per_mille(50) {
+                let operation = self.random.pick(&[RESET, STANDBY]);
+                return Some(script::record(operation, active as u8, 0, 0));
+            }
+            return None;
+        }
+        self.plan.push_front(finish);
+        let end = self.random.below(2) as u8;
+        Some(script::record(WRITE, active as u8, byte, end))
+    }
+
+    fn data(&mut self) -> Option<Record> {
+        let talker = self.bus.present().iter().position(|party| party.talk)?;
+        let byte = self.random.byte();
+        Some(script::record(
+            WRITE,
+            talker as u8,
+            byte,
+            self.random.below(2) as u8,
+        ))
+    }
+
+    /// A source has a byte to send or one stands.
+    fn pending(&self) -> bool {
+        let atn = self.bus.atn();
+        let mut parties = self.bus.present().iter();
+        self.bus.standing.is_some() || parties.any(|p| p.is_source(atn) && p.held.is_some())
+    }
+
+    /// A step that does something, where there is one; now and then any step, or a read.
+    fn walk(&mut self) -> Record {
+        let count = self.bus.count;
+        let start = self.random.below(count);
+        if self.random.per_mille(self.habits.idle_steps) {
+            return script::record(STEP, start as u8, 0, 0);
+        }
+        if self.random.per_mille(20) {
+            return script::record(LINES, 0, 0, 0);
+        }
+        for place in (start..count).chain(0..start) {
+            let party = &self.bus.parties[place];
+            let waits = party.data_in.is_some() && party.acceptor == Acceptor::Anrs;
+            if waits && self.random.per_mille(self.habits.reads) {
+                return script::record(READ, place as u8, 0, 0);
+            }
+            match self.bus.clone().step(place as u8).event {
+                Event::None => {}
+                Event::Noacc if self.random.per_mille(600) => {
+                    let listener = any_party(&self.bus, &mut self.random);
+                    return script::record(LISTEN, listener, 1, 0);
+                }
+                _ => return script::record(STEP, place as u8, 0, 0),
+            }
+        }
+        // Nothing goes on, so the plan has come to a stop.
+        self.plan.clear();
+        script::record(STEP, start as u8, 0, 0)
+    }
+}

@@ -1,0 +1,19 @@
+//! A second model of document 01, and the driver that compares it with a subject.
+
+pub mod builds;
+pub mod compare;
+pub mod compose;
+pub mod edges;
+pub mod guided;
+pub mod ledger;
+pub mod model;
+pub mod plan;
+pub mod random;
+pub mod run;
+pub mod script;
+pub mod shrink;
+pub mod subject;
+pub mod systematic;
+pub mod tally;
+pub mod words;
+pub mod wrong;

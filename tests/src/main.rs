@@ -1,0 +1,76 @@
+//! Compares the model with a subject.
+//!
+//! No argument: the gate run. `long N [SEED]`: N million records. `vectors DIR`: all scripts of a
+//! folder against their texts. `speed`: the model alone.
+
+use std::panic;
+use std::path::Path;
+use std::process::ExitCode;
+use std::sync::atomic::{AtomicBool, Ordering};
+
+use meskvorn_tests::run;
+use meskvorn_tests::subject::{ModelSubject, Subject};
+
+const SEED: u64 = 488;
+const GATE_RECORDS: u64 = 6_000_000;
+const SPEED_RECORDS: usize = 2_000_000;
+
+/// The thing under test.
+fn subject() -> Box<dyn Subject> {
+    Box::new(ModelSubject::default())
+}
+
+/// Shortening a script runs a failing subject many times; only its first panic is shown.
+fn show_first_panic_only() {
+    static SHOWN: AtomicBool = AtomicBool::new(false);
+    let usual = panic::take_hook();
+    panic::set_hook(Box::new(move |info| {
+        if !SHOWN.swap(true, Ordering::Relaxed) {
+            usual(info);
+        }
+    }));
+}
+
+fn usage() -> bool {
+    eprintln!("usage: meskvorn-tests [long MILLIONS [SEED] | vectors DIR | speed]");
+    false
+}
+
+fn long(millions: &str, seed: Option<&str>) -> bool {
+    let seed = seed.map_or(Ok(SEED), str::parse);
+    match (millions.parse::<u64>(), seed) {
+        (Ok(millions), Ok(seed)) => {
+            run::random_run(subject().as_mut(), seed, millions.saturating_mul(1_000_000))
+        }
+        _ => usage(),
+    }
+}
+
+fn vectors(folder: &str) -> bool {
+    run::vectors(subject().as_mut(), Path::new(folder)).unwrap_or_else(|error| {
+        eprintln!("{folder}: {error}");
+        false
+    })
+}
+
+fn main() -> ExitCode {
+    show_first_panic_only();
+    let arguments: Vec<String> = std::env::args().skip(1).collect();
+    let arguments: Vec<&str> = arguments.iter().map(String::as_str).collect();
+    let good = match arguments[..] {
+        [] => run::random_run(subject().as_mut(), SEED, GATE_RECORDS),
+        ["long", millions] => long(millions, None),
+        ["long", millions, seed] => long(millions, Some(seed)),
+        ["vectors", folder] => vectors(folder),
+        ["speed"] => {
+            run::speed(SEED, SPEED_RECORDS);
+            true
+        }
+        _ => usage(),
+    };
+    if good {
+        ExitCode::SUCCESS
+    } else {
+        ExitCode::FAILURE
+    }
+}

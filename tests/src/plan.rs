@@ -1,0 +1,243 @@
+//! What a guided script sets out to do: short lists of goals.
+
+use crate::model::{Bus, Control};
+use crate::random::Random;
+use crate::script::{CLEAR, DROP, LISTEN, POLL, RESET, STANDBY, TAKE, TALK, WRITE};
+
+pub const UNL: u8 = 0x3F;
+pub const UNT: u8 = 0x5F;
+const SDC: u8 = 0x04;
+const GET: u8 = 0x08;
+const TCT: u8 = 0x09;
+const DCL: u8 = 0x14;
+const SPE: u8 = 0x18;
+const SPD: u8 = 0x19;
+
+#[derive(Clone, Copy, Debug)]
+pub enum Goal {
+    /// Operation, party, value, extra.
+    Call(u8, u8, u8, u8),
+    /// Some party becomes active: out of standby, else by interface clear.
+    Gain,
+    /// The active party goes to standby.
+    Release,
+    /// The active party's host writes this byte, and it is walked to its end.
+    Command(u8),
+    /// The talker's host writes a byte.
+    Data,
+    /// Steps until nothing stands and no source holds a byte, at most so many.
+    Finish(usize),
+    /// So many steps.
+    Walk(usize),
+}
+
+/// The party in standby or active, else the system party.
+pub fn controller(bus: &Bus) -> u8 {
+    let found = bus
+        .present()
+        .iter()
+        .position(|party| party.control != Control::Idle);
+    found.unwrap_or(bus.system) as u8
+}
+
+pub fn any_party(bus: &Bus, random: &mut Random) -> u8 {
+    random.below(bus.count.max(1)) as u8
+}
+
+/// Mostly another party than this one.
+fn other_party(bus: &Bus, party: u8, random: &mut Random) -> u8 {
+    let count = bus.count.max(1);
+    let others = count - usize::from(random.per_mille(900)).min(count - 1);
+    ((usize::from(party) + 1 + random.below(others)) % count) as u8
+}
+
+fn listen_address(bus: &Bus, party: u8) -> u8 {
+    0x20 + bus.parties[usize::from(party)].address
+}
+
+fn talk_address(bus: &Bus, party: u8) -> u8 {
+    0x40 + bus.parties[usize::from(party)].address
+}
+
+/// A byte that is likely to mean something on this bus, now and then with bit 128.
+pub fn likely_command(bus: &Bus, random: &mut Random) -> u8 {
+    let party = any_party(bus, random);
+    let byte = match random.below(16) {
+        0..=2 => listen_address(bus, party),
+        3..=5 => talk_address(bus, party),
+        6 => UNL,
+        7 => UNT,
+        8 => 0x20 + random.below(32) as u8,
+        9 => 0x40 + random.below(32) as u8,
+        10 => random.pick(&[SPE, SPD]),
+        11 => TCT,
+        12 => random.pick(&[SDC, GET, DCL]),
+        13 => random.pick(&[SPE, SPD, TCT, SDC, GET, DCL]),
+        14 => random.below(0x20) as u8,
+        _ => random.byte(),
+    };
+    byte | if random.per_mille(100) { 0x80 } else { 0 }
+}
+
+/// A poll register: often with bit 64, often 0 or 1 beside it.
+pub fn likely_register(random: &mut Random) -> u8 {
+    let any = random.byte();
+    random.pick(&[0x00, 0x01, 0x40, 0x41, 0x40, 0x41, 0xFF, 0xBF, any])
+}
+
+type Scenario = fn(&Bus, &mut Random, &mut Vec<Goal>);
+
+const SCENARIOS: [Scenario; 14] = [
+    talk_to_listeners,
+    talk_to_listeners,
+    talk_to_listeners,
+    talk_to_listeners,
+    address_and_send,
+    address_and_send,
+    serial_poll,
+    serial_poll,
+    pass_control,
+    pass_control,
+    signals,
+    mid_byte,
+    mid_byte,
+    nobody_listens,
+];
+
+/// Goals for one scenario of chance, never none.
+pub fn scenario(bus: &Bus, random: &mut Random) -> Vec<Goal> {
+    let mut goals = Vec::new();
+    random.pick(&SCENARIOS)(bus, random, &mut goals);
+    goals.push(Goal::Walk(1 + random.below(4)));
+    goals
+}
+
+/// Listen-only and talk-only, with parties that leave and join while a byte stands.
+fn talk_to_listeners(bus: &Bus, random: &mut Random, goals: &mut Vec<Goal>) {
+    let talker = any_party(bus, random);
+    if bus.atn() {
+        goals.push(Goal::Release);
+    }
+    goals.push(Goal::Call(LISTEN, talker, 0, 0));
+    goals.push(Goal::Call(TALK, talker, 1, 0));
+    for _ in 0..1 + random.below(bus.count) {
+        goals.push(Goal::Call(LISTEN, other_party(bus, talker, random), 1, 0));
+    }
+    for _ in 0..1 + random.below(8) {
+        goals.push(Goal::Data);
+        if random.per_mille(400) {
+            goals.push(Goal::Walk(random.below(5 * bus.count + 1)));
+            let party = any_party(bus, random);
+            goals.push(Goal::Call(LISTEN, party, random.below(2) as u8, 0));
+            goals.push(Goal::Call(LISTEN, party, random.below(2) as u8, 0));
+        }
+        goals.push(Goal::Finish(8 * bus.count));
+    }
+}
+
+/// A controller addresses a talker and listeners, lets them send, and may cut in.
+fn address_and_send(bus: &Bus, random: &mut Random, goals: &mut Vec<Goal>) {
+    goals.push(Goal::Gain);
+    if random.per_mille(700) {
+        goals.push(Goal::Command(UNL));
+    }
+    let talker = any_party(bus, random);
+    for _ in 0..1 + random.below(3) {
+        goals.push(Goal::Command(listen_address(
+            bus,
+            other_party(bus, talker, random),
+        )));
+    }
+    goals.push(Goal::Command(talk_address(bus, talker)));
+    goals.push(Goal::Release);
+    for _ in 0..1 + random.below(8) {
+        goals.push(Goal::Data);
+        goals.push(Goal::Finish(8 * bus.count));
+    }
+    if random.per_mille(500) {
+        goals.push(Goal::Data);
+        goals.push(Goal::Walk(random.below(5 * bus.count + 1)));
+        goals.push(Goal::Gain);
+    }
+}
+
+fn serial_poll(bus: &Bus, random: &mut Random, goals: &mut Vec<Goal>) {
+    let polled = any_party(bus, random);
+    goals.push(Goal::Call(POLL, polled, likely_register(random), 0));
+    goals.push(Goal::Gain);
+    if random.per_mille(800) {
+        goals.push(Goal::Command(listen_address(bus, controller(bus))));
+    }
+    if random.per_mille(300) {
+        goals.push(Goal::Call(WRITE, polled, random.byte(), 1));
+    }
+    goals.push(Goal::Command(SPE));
+    goals.push(Goal::Command(talk_address(bus, polled)));
+    goals.push(Goal::Release);
+    goals.push(Goal::Walk(8 + random.below(20)));
+    if random.per_mille(500) {
+        goals.push(Goal::Call(POLL, polled, likely_register(random), 0));
+        goals.push(Goal::Walk(8 + random.below(20)));
+    }
+    goals.push(Goal::Gain);
+    if random.per_mille(700) {
+        goals.push(Goal::Command(SPD));
+        goals.push(Goal::Command(UNT));
+    }
+}
+
+fn pass_control(bus: &Bus, random: &mut Random, goals: &mut Vec<Goal>) {
+    let next = any_party(bus, random);
+    goals.push(Goal::Gain);
+    goals.push(Goal::Command(talk_address(bus, next)));
+    if random.per_mille(400) {
+        goals.push(Goal::Call(WRITE, next, random.byte(), 0));
+    }
+    if random.per_mille(700) {
+        goals.push(Goal::Command(random.pick(&[TCT, TCT, TCT | 0x80])));
+        return;
+    }
+    // The sender writes again while its TCT stands, so that two held bytes are dropped.
+    goals.push(Goal::Call(WRITE, controller(bus), TCT, 0));
+    goals.push(Goal::Walk(3 * bus.count));
+    goals.push(Goal::Call(WRITE, controller(bus), random.byte(), 0));
+    goals.push(Goal::Finish(6 * bus.count));
+}
+
+fn signals(bus: &Bus, random: &mut Random, goals: &mut Vec<Goal>) {
+    goals.push(Goal::Gain);
+    goals.push(Goal::Command(listen_address(bus, any_party(bus, random))));
+    for _ in 0..1 + random.below(4) {
+        goals.push(Goal::Command(random.pick(&[SDC, GET, DCL, GET | 0x80])));
+    }
+}
+
+/// A call in the middle of whatever goes on.
+fn mid_byte(bus: &Bus, random: &mut Random, goals: &mut Vec<Goal>) {
+    goals.push(Goal::Data);
+    goals.push(Goal::Walk(random.below(5 * bus.count + 1)));
+    let party = if random.per_mille(500) {
+        controller(bus)
+    } else {
+        any_party(bus, random)
+    };
+    let operation = random.pick(&[RESET, LISTEN, TALK, TAKE, STANDBY, CLEAR, DROP]);
+    goals.push(Goal::Call(operation, party, random.below(2) as u8, 0));
+}
+
+/// Data or a status byte with no acceptor on the bus.
+fn nobody_listens(bus: &Bus, random: &mut Random, goals: &mut Vec<Goal>) {
+    let talker = any_party(bus, random);
+    goals.push(Goal::Gain);
+    goals.push(Goal::Command(UNL));
+    goals.push(Goal::Command(random.pick(&[SPE, SPD])));
+    goals.push(Goal::Command(talk_address(bus, talker)));
+    goals.push(Goal::Release);
+    goals.push(Goal::Call(
+        WRITE,
+        talker,
+        random.byte(),
+        random.below(2) as u8,
+    ));
+    goals.push(Goal::Walk(4));
+}

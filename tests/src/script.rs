@@ -1,0 +1,116 @@
+//! Bus scripts: six-byte records, whole scripts, and the text that busrun prints.
+
+use crate::model::{Answer, Bus, Refusal, MOST_PARTIES};
+
+pub const MARK: [u8; 2] = [0x47, 0x42];
+pub const RECORD: usize = 6;
+pub const LONGEST: usize = 65_532;
+
+pub type Record = [u8; RECORD];
+
+pub const BUILD: u8 = 0;
+pub const STEP: u8 = 1;
+pub const WRITE: u8 = 2;
+pub const READ: u8 = 3;
+pub const POLL: u8 = 4;
+pub const LISTEN: u8 = 5;
+pub const TALK: u8 = 6;
+pub const TAKE: u8 = 7;
+pub const STANDBY: u8 = 8;
+pub const CLEAR: u8 = 9;
+pub const RESET: u8 = 10;
+pub const DROP: u8 = 11;
+pub const LINES: u8 = 12;
+
+pub const fn record(operation: u8, party: u8, value: u8, extra: u8) -> Record {
+    [MARK[0], MARK[1], operation, party, value, extra]
+}
+
+/// Builds from a record: `count` addresses upward from `first`.
+fn build(bus: &mut Bus, system: u8, count: u8, first: u8) -> Answer {
+    // One address more than a bus can have is enough to be refused.
+    let mut addresses = [0; MOST_PARTIES + 1];
+    for (address, next) in addresses.iter_mut().zip(first..=u8::MAX) {
+        *address = next;
+    }
+    let count = usize::from(count).min(addresses.len());
+    bus.build(&addresses[..count], system)
+}
+
+/// One record on a kept bus; a wrong mark leaves the bus as it is.
+pub fn run_record(bus: &mut Bus, record: Record) -> Answer {
+    let [mark, second, operation, party, value, extra] = record;
+    if [mark, second] != MARK {
+        return Answer::refused(Refusal::Record);
+    }
+    match operation {
+        BUILD => build(bus, party, value, extra),
+        STEP => bus.step(party),
+        WRITE => bus.write(party, value, extra),
+        READ => bus.read(party),
+        POLL => bus.poll_register(party, value),
+        LISTEN => bus.listen_only(party, value),
+        TALK => bus.talk_only(party, value),
+        TAKE => bus.take_control(party),
+        STANDBY => bus.standby(party),
+        CLEAR => bus.clear(party),
+        RESET => bus.reset(party),
+        DROP => bus.drop_byte(party),
+        LINES => bus.lines(),
+        _ => Answer::refused(Refusal::BadValue),
+    }
+}
+
+fn push_number(out: &mut Vec<u8>, number: usize) {
+    if number >= 10 {
+        push_number(out, number / 10);
+    }
+    out.push(b'0' + (number % 10) as u8);
+}
+
+/// The line of one record.
+pub fn print_line(out: &mut Vec<u8>, number: usize, answer: &Answer) {
+    const DIGITS: &[u8; 16] = b"0123456789abcdef";
+    push_number(out, number);
+    out.push(b' ');
+    push_number(out, answer.refusal as usize);
+    out.push(b' ');
+    out.extend_from_slice(answer.event.word().as_bytes());
+    out.push(b' ');
+    if answer.event.has_byte() {
+        out.push(DIGITS[usize::from(answer.byte >> 4)]);
+        out.push(DIGITS[usize::from(answer.byte & 15)]);
+    } else {
+        out.extend_from_slice(b"--");
+    }
+    for count in [u8::from(answer.end), answer.dropped, answer.broken] {
+        out.push(b' ');
+        push_number(out, usize::from(count));
+    }
+    out.push(b'\n');
+}
+
+/// A whole script, each of its records answered by `call`. Any string of bytes is a script.
+pub fn run_by(script: &[u8], out: &mut Vec<u8>, mut call: impl FnMut(Record) -> Answer) {
+    let bad = Answer::refused(Refusal::Record);
+    if script.len() > LONGEST {
+        print_line(out, 0, &bad);
+        return;
+    }
+    for (place, chunk) in script.chunks(RECORD).enumerate() {
+        let answer = match Record::try_from(chunk) {
+            Ok(record) => call(record),
+            Err(_) => bad,
+        };
+        print_line(out, place + 1, &answer);
+        if answer.refusal == Refusal::Record {
+            return;
+        }
+    }
+}
+
+/// A whole script on the model, from the bus of no parties.
+pub fn run(script: &[u8], out: &mut Vec<u8>) {
+    let mut bus = Bus::new();
+    run_by(script, out, |record| run_record(&mut bus, record));
+}

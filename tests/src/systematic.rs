@@ -1,0 +1,195 @@
+//! Every operation on every kind of state that short prefixes lead to.
+
+use std::collections::{HashSet, VecDeque};
+
+use crate::compare::{Comparison, Finding};
+use crate::compose::Composer;
+use crate::guided::Guided;
+use crate::model::{Acceptor, Bus, Control, Kind, Service, Source, ATN, DAV};
+use crate::script::{self, Record, BUILD, CLEAR, DROP, LINES, LISTEN, POLL, READ, RESET, STANDBY};
+use crate::script::{STEP, TAKE, TALK, WRITE};
+
+const PARTIES: u8 = 3;
+const FIRST_ADDRESS: u8 = 5;
+const LONGEST_PREFIX: usize = 90;
+const TAIL: usize = 10;
+
+/// What tells one party's state from another's, with the bus around it.
+#[derive(Clone, Copy, PartialEq, Eq, Hash)]
+struct PartyKind {
+    flags: [bool; 3],
+    control: Control,
+    source: Source,
+    acceptor: Acceptor,
+    held: bool,
+    data_in: bool,
+    service: Service,
+    register_waits: bool,
+    system: bool,
+    lines: u8,
+    standing: Option<(Kind, bool)>,
+}
+
+/// `lines` says which lines count for telling states apart.
+fn kind(bus: &Bus, place: usize, lines: u8) -> PartyKind {
+    let party = &bus.parties[place];
+    PartyKind {
+        flags: [party.talk, party.listen, party.poll_mode],
+        control: party.control,
+        source: party.source,
+        acceptor: party.acceptor,
+        held: party.held.is_some(),
+        data_in: party.data_in.is_some(),
+        service: party.service,
+        register_waits: party.live != party.saved,
+        system: place == bus.system,
+        lines: bus.line_bits() & lines,
+        standing: bus
+            .standing
+            .map(|standing| (standing.kind, standing.sender == place)),
+    }
+}
+
+/// Calls that lead from one kind of state to another.
+fn single_calls() -> Vec<Record> {
+    let mut calls = Vec::new();
+    for party in 0..PARTIES {
+        for operation in [STEP, READ, TAKE, STANDBY, CLEAR, RESET, DROP] {
+            calls.push(script::record(operation, party, 0, 0));
+        }
+        for switch in 0..2 {
+            calls.push(script::record(LISTEN, party, switch, 0));
+            calls.push(script::record(TALK, party, switch, 0));
+            calls.push(script::record(POLL, party, 0x41 * switch, 0));
+            calls.push(script::record(WRITE, party, 0x09, switch));
+        }
+    }
+    calls
+}
+
+/// Commands that the search sends as one move: addresses, UNL, UNT, SPE, SPD, TCT.
+fn commands() -> Vec<u8> {
+    let mut commands = vec![0x3F, 0x5F, 0x18, 0x19, 0x09];
+    for address in FIRST_ADDRESS..FIRST_ADDRESS + PARTIES {
+        commands.push(0x20 + address);
+        commands.push(0x40 + address);
+    }
+    commands
+}
+
+/// Enters the kinds of all parties; true if one was new.
+fn enter(known: &mut HashSet<PartyKind>, bus: &Bus, lines: u8) -> bool {
+    let already = known.len();
+    known.extend((0..bus.count).map(|place| kind(bus, place, lines)));
+    known.len() > already
+}
+
+/// All that one call or one whole command leads to.
+fn reached(state: &Composer, calls: &[Record], commands: &[u8]) -> Vec<Composer> {
+    let mut reached = Vec::new();
+    for call in calls {
+        let mut next = state.clone();
+        if next.call(call[2], call[3], call[4], call[5]).accepted() {
+            reached.push(next);
+        }
+    }
+    for command in commands {
+        let mut next = state.clone();
+        if next.command(*command) {
+            reached.push(next);
+        }
+    }
+    reached
+}
+
+/// One prefix for every kind of party state that the search comes upon, fewest moves first.
+/// The search goes on from kinds told apart by all lines; those tested, by ATN and DAV.
+pub fn prefixes() -> Vec<Vec<Record>> {
+    let (calls, commands) = (single_calls(), commands());
+    let mut start = Composer::new();
+    start.call(BUILD, 0, PARTIES, FIRST_ADDRESS);
+    let (mut searched, mut tested) = (HashSet::new(), HashSet::new());
+    let mut queue = VecDeque::from([start]);
+    let mut found = Vec::new();
+    while let Some(state) = queue.pop_front() {
+        if enter(&mut tested, &state.bus, ATN | DAV) {
+            found.push(state.records.clone());
+        }
+        for next in reached(&state, &calls, &commands) {
+            let short = next.records.len() <= LONGEST_PREFIX;
+            if short && enter(&mut searched, &next.bus, u8::MAX) {
+                queue.push_back(next);
+            }
+        }
+    }
+    found
+}
+
+/// All operations, with own, other and no such party, and values in and out of range.
+fn all_calls() -> Vec<Record> {
+    let mut calls = vec![
+        script::record(LINES, 0, 0, 0),
+        script::record(LINES, 255, 255, 255),
+        script::record(13, 0, 0, 0),
+        script::record(13, 255, 2, 2),
+        script::record(255, 0, 0, 0),
+    ];
+    for party in [0, 1, 2, PARTIES, 255] {
+        for operation in [STEP, READ, TAKE, STANDBY, CLEAR, RESET, DROP] {
+            calls.push(script::record(operation, party, 2, 2));
+        }
+        for value in 0..3 {
+            calls.push(script::record(LISTEN, party, value, 0));
+            calls.push(script::record(TALK, party, value, 2));
+            calls.push(script::record(WRITE, party, 0xA5, value));
+            calls.push(script::record(
+                POLL,
+                party,
+                [0, 0x40, 0xFF][usize::from(value)],
+                2,
+            ));
+        }
+    }
+    calls
+}
+
+const BUILDS: [Record; 4] = [
+    script::record(BUILD, 1, 2, 29),
+    script::record(BUILD, 0, 0, 5),
+    script::record(BUILD, 0, 2, 30),
+    script::record(BUILD, 2, 2, 5),
+];
+
+/// Refused calls change nothing, so they go into one script; each accepted one has its own.
+fn one_kind(
+    comparison: &mut Comparison,
+    guided: &mut Guided,
+    prefix: &[Record],
+    calls: &[Record],
+) -> Result<(), Finding> {
+    let mut bus = Bus::new();
+    for record in prefix {
+        script::run_record(&mut bus, *record);
+    }
+    let accepted = |call: &Record| script::run_record(&mut bus.clone(), *call).accepted();
+    let (good, refused): (Vec<Record>, Vec<Record>) = calls.iter().partition(|c| accepted(c));
+    comparison.script(guided.go_on(&[prefix, &refused].concat(), TAIL))?;
+    for call in good.iter().chain(&BUILDS) {
+        comparison.script(guided.go_on(&[prefix, &[*call]].concat(), TAIL))?;
+    }
+    Ok(())
+}
+
+/// The whole systematic part, from the prefixes given.
+pub fn run(
+    comparison: &mut Comparison,
+    prefixes: &[Vec<Record>],
+    seed: u64,
+) -> Result<(), Finding> {
+    let mut guided = Guided::new(seed);
+    let calls = all_calls();
+    for prefix in prefixes {
+        one_kind(comparison, &mut guided, prefix, &calls)?;
+    }
+    Ok(())
+}

@@ -1,0 +1,50 @@
+//! How often each refusal and each event came.
+
+use crate::model::{Answer, Event, Refusal};
+
+#[derive(Clone, Default, Debug)]
+pub struct Tally {
+    pub scripts: u64,
+    pub records: u64,
+    pub refusals: [u64; 11],
+    pub events: [u64; 14],
+    /// Answers with dropped 1, with dropped 2, with broken 1.
+    pub losses: [u64; 3],
+}
+
+const LOSSES: [&str; 3] = ["dropped 1", "dropped 2", "broken 1"];
+
+impl Tally {
+    pub fn count(&mut self, answer: &Answer) {
+        self.records += 1;
+        self.refusals[answer.refusal as usize] += 1;
+        self.events[answer.event as usize] += 1;
+        self.losses[0] += u64::from(answer.dropped == 1);
+        self.losses[1] += u64::from(answer.dropped == 2);
+        self.losses[2] += u64::from(answer.broken == 1);
+    }
+
+    /// What never came.
+    pub fn missing(&self) -> Vec<&'static str> {
+        let refusals = self.refusals.iter().zip(Refusal::WORDS);
+        let events = self.events.iter().zip(Event::WORDS);
+        let losses = self.losses.iter().zip(LOSSES);
+        let all = refusals.chain(events).chain(losses);
+        all.filter(|(count, _)| **count == 0)
+            .map(|(_, word)| word)
+            .collect()
+    }
+
+    pub fn print(&self) {
+        println!("{} scripts, {} records", self.scripts, self.records);
+        println!("{:>3} {:<10} {:>12}", "No.", "refusal", "count");
+        for (number, count) in self.refusals.iter().enumerate() {
+            println!("{number:>3} {:<10} {count:>12}", Refusal::WORDS[number]);
+        }
+        println!("    {:<10} {:>12}", "event", "count");
+        let losses = LOSSES.iter().zip(&self.losses);
+        for (word, count) in Event::WORDS.iter().zip(&self.events).chain(losses) {
+            println!("    {word:<10} {count:>12}");
+        }
+    }
+}

@@ -1,0 +1,59 @@
+//! Records and answers in words, for reports.
+
+use crate::model::{Answer, Refusal};
+use crate::script::{self, Record, MARK};
+
+fn switch(value: u8) -> String {
+    match value {
+        0 => "off".to_string(),
+        1 => "on".to_string(),
+        other => format!("switch {other}"),
+    }
+}
+
+fn call(operation: u8, party: u8, value: u8, extra: u8) -> String {
+    match operation {
+        script::BUILD => {
+            format!("build {value} parties from address {extra}, system party {party}")
+        }
+        script::STEP => format!("step party {party}"),
+        script::WRITE => format!("write party {party} byte {value:02x} END {extra}"),
+        script::READ => format!("read party {party}"),
+        script::POLL => format!("poll register party {party} value {value:02x}"),
+        script::LISTEN => format!("listen-only party {party} {}", switch(value)),
+        script::TALK => format!("talk-only party {party} {}", switch(value)),
+        script::TAKE => format!("take control party {party}"),
+        script::STANDBY => format!("go to standby party {party}"),
+        script::CLEAR => format!("interface clear by party {party}"),
+        script::RESET => format!("reset party {party}"),
+        script::DROP => format!("drop party {party}"),
+        script::LINES => "lines".to_string(),
+        other => format!("unknown operation {other}"),
+    }
+}
+
+/// One piece of a script: a record, a record with a wrong mark, or a short tail.
+pub fn piece(bytes: &[u8]) -> String {
+    match Record::try_from(bytes) {
+        Ok([mark, second, operation, party, value, extra]) if [mark, second] == MARK => {
+            call(operation, party, value, extra)
+        }
+        Ok(_) => "wrong mark".to_string(),
+        Err(_) => format!("short tail of {} bytes", bytes.len()),
+    }
+}
+
+pub fn hex(bytes: &[u8]) -> String {
+    bytes.iter().map(|byte| format!("{byte:02x}")).collect()
+}
+
+/// The answer as busrun prints it, without the number.
+pub fn answer(answer: &Answer) -> String {
+    let mut line = Vec::new();
+    script::print_line(&mut line, 0, answer);
+    let text = String::from_utf8_lossy(&line[2..]).trim_end().to_string();
+    match answer.refusal {
+        Refusal::Accepted => text,
+        refusal => format!("{text} ({})", Refusal::WORDS[refusal as usize]),
+    }
+}

@@ -1,0 +1,195 @@
+//! The ledger and the comparison must catch wrong machines, and must be quiet about the right one.
+
+mod common;
+
+use common::records;
+use meskvorn_tests::compare::{Comparison, Difference, Finding};
+use meskvorn_tests::guided::Guided;
+use meskvorn_tests::ledger::Ledger;
+use meskvorn_tests::script::{Record, RECORD};
+use meskvorn_tests::subject::{ModelSubject, Subject};
+use meskvorn_tests::wrong::{Wrong, FAULTS};
+use meskvorn_tests::{edges, run, systematic};
+
+/// Runs the wrong machine alone; the rule of demand 3 that it breaks, if the ledger sees one.
+fn ledger_says(fault: &str, records: &[Record]) -> Option<&'static str> {
+    let mut machine = Wrong::named(fault);
+    let mut ledger = Ledger::new();
+    records.iter().find_map(|record| {
+        let before = machine.bus;
+        let answer = machine.call(*record);
+        ledger.enter(&before, *record, &answer, &machine.bus).err()
+    })
+}
+
+/// A talker at 0; listeners at 1 and 2 that are ready, or the first alone; byte 41 stands.
+const ONE_LISTENER: &str = "00000305 06000100 05010100 02004101 01000000 01010000 01000000";
+const TWO_LISTENERS: &str =
+    "00000305 06000100 05010100 05020100 02004101 01000000 01010000 01020000 01000000";
+
+#[test]
+fn ledger_catches_the_joiner() {
+    let calls = format!("{ONE_LISTENER} 05020100 01020000 01020000");
+    let rule = ledger_says("joiner in ANRS under DAV", &records(&calls));
+    assert_eq!(rule, Some("a byte was taken by a party that was not ready"));
+}
+
+#[test]
+fn ledger_catches_the_early_end() {
+    let calls = format!("{TWO_LISTENERS} 01010000 01010000 01000000");
+    let rule = ledger_says("ended when the first listener lets go", &records(&calls));
+    assert_eq!(rule, Some("a byte ended that a ready party had not taken"));
+}
+
+#[test]
+fn ledger_catches_the_broken_byte_put_again() {
+    let calls = format!("{TWO_LISTENERS} 06000000");
+    let rule = ledger_says("broken byte put again", &records(&calls));
+    assert_eq!(rule, Some("accepted writes are not puts + dropped + held"));
+}
+
+#[test]
+fn ledger_catches_tct_acted_on_when_heard() {
+    let calls = "00000205 09000000 02004600 01000000 01010000 01000000 01010000 01010000 01000000
+        02000900 01000000 01010000 01010000 01000000 01010000";
+    let rule = ledger_says("TCT acted on when heard", &records(calls));
+    assert_eq!(rule, Some("two parties drive ATN"));
+}
+
+#[test]
+fn ledger_catches_a_second_taking() {
+    let calls = format!("{ONE_LISTENER} 01010000 01010000 01010000");
+    let rule = ledger_says("a listener takes twice", &records(&calls));
+    assert_eq!(rule, Some("a byte was taken twice by one party"));
+}
+
+#[test]
+fn ledger_catches_a_lost_end() {
+    let calls = format!("{ONE_LISTENER} 01010000");
+    let rule = ledger_says("END lost in taking", &records(&calls));
+    assert_eq!(rule, Some("the END taken is not the END put up"));
+}
+
+#[test]
+fn ledger_catches_made_up_counts() {
+    let rule = ledger_says(
+        "dropped counted twice",
+        &records("00000205 02004100 0b000000"),
+    );
+    assert_eq!(rule, Some("accepted writes are not puts + dropped + held"));
+    let rule = ledger_says("broken made up", &records("00000205 0a000000"));
+    assert_eq!(rule, Some("a byte was broken off while none stood"));
+}
+
+#[test]
+fn ledger_catches_each_named_mistake_by_chance_too() {
+    for (name, _) in &FAULTS[..4] {
+        let mut guided = Guided::new(1);
+        let caught = (0..2000).any(|_| {
+            let script = guided.script();
+            let records: Vec<Record> = script
+                .chunks_exact(RECORD)
+                .map(|piece| piece.try_into().unwrap())
+                .collect();
+            ledger_says(name, &records).is_some()
+        });
+        assert!(caught, "{name}");
+    }
+}
+
+fn first_finding(subject: &mut dyn Subject, records: u64) -> Option<Finding> {
+    let mut comparison = Comparison::new(subject);
+    let mut guided = Guided::new(2);
+    while comparison.tally.records < records {
+        if let Err(finding) = comparison.script(guided.script()) {
+            return Some(finding);
+        }
+    }
+    edges::run(&mut comparison, 2).err()
+}
+
+#[test]
+fn comparison_catches_every_fault() {
+    for (name, fault) in FAULTS {
+        let finding = first_finding(&mut Wrong::new(*fault), 300_000);
+        let finding = finding.unwrap_or_else(|| panic!("not caught: {name}"));
+        assert!(
+            finding.script.len() <= 60 * RECORD,
+            "{name}: {} bytes",
+            finding.script.len()
+        );
+    }
+}
+
+#[test]
+fn systematic_part_catches_every_fault() {
+    let prefixes = systematic::prefixes();
+    for (name, fault) in FAULTS {
+        let mut machine = Wrong::new(*fault);
+        let mut comparison = Comparison::new(&mut machine);
+        let found = systematic::run(&mut comparison, &prefixes, 3).is_err();
+        assert!(
+            found || edges::run(&mut comparison, 3).is_err(),
+            "not caught: {name}"
+        );
+    }
+}
+
+#[test]
+fn the_joiner_is_shown_by_a_short_script() {
+    let mut machine = Wrong::named("joiner in ANRS under DAV");
+    let finding = first_finding(&mut machine, 300_000).expect("a difference");
+    let mut comparison = Comparison::new(&mut machine);
+    let finding = run::shortest(&mut comparison, 4, finding);
+    // Build, talker, listener, write, two steps, put, joining, and the joiner's step.
+    assert!(finding.script.len() <= 9 * RECORD, "{:?}", finding.script);
+    assert!(matches!(finding.difference, Difference::Answer { .. }));
+}
+
+/// Agrees record by record and differs in the text alone.
+struct WrongText(ModelSubject);
+
+impl Subject for WrongText {
+    fn run_script(&mut self, script: &[u8], out: &mut Vec<u8>) {
+        self.0.run_script(script, out);
+        out.make_ascii_uppercase();
+    }
+    fn start(&mut self) {
+        self.0.start();
+    }
+    fn record(&mut self, record: Record) -> meskvorn_tests::model::Answer {
+        self.0.record(record)
+    }
+}
+
+#[test]
+fn comparison_reads_the_text_too() {
+    let mut subject = WrongText(ModelSubject::default());
+    let finding = first_finding(&mut subject, 1000).expect("a difference");
+    assert!(finding.script.len() <= RECORD);
+    assert!(matches!(
+        finding.difference,
+        Difference::Text { line: 1, .. }
+    ));
+}
+
+#[test]
+fn the_model_agrees_with_itself() {
+    let mut subject = ModelSubject::default();
+    assert!(first_finding(&mut subject, 300_000).is_none());
+}
+
+#[test]
+fn a_comparison_counts_what_came() {
+    let mut subject = ModelSubject::default();
+    let mut comparison = Comparison::new(&mut subject);
+    comparison
+        .script(&records("00000205 01000000 03000000").concat())
+        .unwrap();
+    assert_eq!(comparison.tally.records, 3);
+    assert_eq!(comparison.tally.refusals[0], 2);
+    assert_eq!(comparison.tally.refusals[9], 1);
+    assert_eq!(comparison.tally.events[0], 3);
+    assert!(comparison.tally.missing().contains(&"NOPARTY"));
+    assert!(!comparison.tally.missing().contains(&"EMPTY"));
+}

@@ -1,0 +1,41 @@
+//! Scripts in hexadecimal without their marks, and answers without their numbers.
+
+use meskvorn_tests::script::{self, Record, MARK};
+
+/// Records from words of eight digits: operation, party, value, extra.
+pub fn records(calls: &str) -> Vec<Record> {
+    let field = |call: &str, at: usize| u8::from_str_radix(&call[at..at + 2], 16).unwrap();
+    calls
+        .split_whitespace()
+        .map(|call| {
+            assert_eq!(call.len(), 8, "{call}");
+            let [operation, party, value, extra] = [0, 2, 4, 6].map(|at| field(call, at));
+            [MARK[0], MARK[1], operation, party, value, extra]
+        })
+        .collect()
+}
+
+#[allow(dead_code)]
+pub fn text(script: &[u8]) -> String {
+    let mut out = Vec::new();
+    script::run(script, &mut out);
+    String::from_utf8(out).unwrap()
+}
+
+/// Runs pairs of a call and the line expected of it, numbers left out.
+#[allow(dead_code)]
+pub fn check(pairs: &[(&str, &str)]) {
+    let calls: Vec<&str> = pairs.iter().map(|pair| pair.0).collect();
+    let out = text(&records(&calls.join(" ")).concat());
+    let lines: Vec<&str> = out.lines().collect();
+    assert_eq!(lines.len(), pairs.len(), "{out}");
+    for (place, (call, wanted)) in pairs.iter().enumerate() {
+        let wanted = format!("{} {wanted}", place + 1);
+        assert_eq!(lines[place], wanted, "call {call}");
+    }
+}
+
+#[allow(dead_code)]
+pub const NONE: &str = "0 none -- 0 0 0";
+#[allow(dead_code)]
+pub const MOVED: &str = "0 moved -- 0 0 0";
