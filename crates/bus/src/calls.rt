@@ -28,15 +28,9 @@ impl Bus {
         let p = ps[at];
         let inside = is_inside(i, self.count);
         let sends = st.is_command_of(i);
-        let r = judged(
-            c,
-            inside,
-            p,
-            l.atn,
-            talker.is_found(),
-            sends,
-            i.0 == system.0,
-        );
+        let another = talker.is_found();
+        let chief = i.0 == system.0;
+        let r = judged(c, inside, p, l.atn, another, sends, chief);
         if r.is_accepted() {
             let e = effect_of(c, s, st, p);
             let after = e.after;
