@@ -1,0 +1,193 @@
+use borrow.Author.Needs.{needs}
+use Rattle.text.proofs.word_of.Statement.{statement}
+use Rattle.text.proofs.word_of.Tie as tie
+use mathlib.Core.Path.{refl}
+use lib.Dec.{lit≤}
+use Rattle.text.specs.Text.{codes, wordText}
+
+enum-told : tie.Need-enum-told
+enum-told c = search needs
+
+padded-requires : tie.Need-padded-requires
+padded-requires c κs = search needs
+
+enum-told-2 : tie.Need-enum-told-2
+enum-told-2 c = search needs
+
+padded-requires-2 : tie.Need-padded-requires-2
+padded-requires-2 c κs = search needs
+
+enum-told-3 : tie.Need-enum-told-3
+enum-told-3 c = search needs
+
+padded-requires-3 : tie.Need-padded-requires-3
+padded-requires-3 c κs = search needs
+
+enum-told-4 : tie.Need-enum-told-4
+enum-told-4 c = search needs
+
+padded-requires-4 : tie.Need-padded-requires-4
+padded-requires-4 c κs = search needs
+
+enum-told-5 : tie.Need-enum-told-5
+enum-told-5 c = search needs
+
+padded-requires-5 : tie.Need-padded-requires-5
+padded-requires-5 c κs = search needs
+
+enum-told-6 : tie.Need-enum-told-6
+enum-told-6 c = search needs
+
+padded-requires-6 : tie.Need-padded-requires-6
+padded-requires-6 c κs = search needs
+
+enum-told-7 : tie.Need-enum-told-7
+enum-told-7 c = search needs
+
+padded-requires-7 : tie.Need-padded-requires-7
+padded-requires-7 c κs = search needs
+
+enum-told-8 : tie.Need-enum-told-8
+enum-told-8 c = search needs
+
+padded-requires-8 : tie.Need-padded-requires-8
+padded-requires-8 c κs = search needs
+
+enum-told-9 : tie.Need-enum-told-9
+enum-told-9 c = search needs
+
+padded-requires-9 : tie.Need-padded-requires-9
+padded-requires-9 c κs = search needs
+
+enum-told-10 : tie.Need-enum-told-10
+enum-told-10 c = search needs
+
+padded-requires-10 : tie.Need-padded-requires-10
+padded-requires-10 c κs = search needs
+
+enum-told-11 : tie.Need-enum-told-11
+enum-told-11 c = search needs
+
+padded-requires-11 : tie.Need-padded-requires-11
+padded-requires-11 c κs = search needs
+
+enum-told-12 : tie.Need-enum-told-12
+enum-told-12 c = search needs
+
+padded-requires-12 : tie.Need-padded-requires-12
+padded-requires-12 c κs = search needs
+
+enum-told-13 : tie.Need-enum-told-13
+enum-told-13 c = search needs
+
+padded-requires-13 : tie.Need-padded-requires-13
+padded-requires-13 c κs = search needs
+
+enum-told-14 : tie.Need-enum-told-14
+enum-told-14 c = search needs
+
+padded-requires-14 : tie.Need-padded-requires-14
+padded-requires-14 c κs = search needs
+
+returns : tie.Need-returns
+unfolding wordText codes
+returns c = rw (c .padded .ensures, c .before .before .before .enum-told .given .1) (lit≤ tt, refl)
+
+returns-2 : tie.Need-returns-2
+unfolding wordText codes
+returns-2 c = rw (c .padded2 .ensures, c .before .before .before .enum-told2 .given .1) (lit≤ tt, refl)
+
+returns-3 : tie.Need-returns-3
+unfolding wordText codes
+returns-3 c = rw (c .padded3 .ensures, c .before .before .before .enum-told3 .given .1) (lit≤ tt, refl)
+
+returns-4 : tie.Need-returns-4
+unfolding wordText codes
+returns-4 c = rw (c .padded4 .ensures, c .before .before .before .enum-told4 .given .1) (lit≤ tt, refl)
+
+returns-5 : tie.Need-returns-5
+unfolding wordText codes
+returns-5 c = rw (c .padded5 .ensures, c .before .before .before .enum-told5 .given .1) (lit≤ tt, refl)
+
+returns-6 : tie.Need-returns-6
+unfolding wordText codes
+returns-6 c = rw (c .padded6 .ensures, c .before .before .before .enum-told6 .given .1) (lit≤ tt, refl)
+
+returns-7 : tie.Need-returns-7
+unfolding wordText codes
+returns-7 c = rw (c .padded7 .ensures, c .before .before .before .enum-told7 .given .1) (lit≤ tt, refl)
+
+returns-8 : tie.Need-returns-8
+unfolding wordText codes
+returns-8 c = rw (c .padded8 .ensures, c .before .before .before .enum-told8 .given .1) (lit≤ tt, refl)
+
+returns-9 : tie.Need-returns-9
+unfolding wordText codes
+returns-9 c = rw (c .padded9 .ensures, c .before .before .before .enum-told9 .given .1) (lit≤ tt, refl)
+
+returns-10 : tie.Need-returns-10
+unfolding wordText codes
+returns-10 c = rw (c .padded10 .ensures, c .before .before .before .enum-told10 .given .1) (lit≤ tt, refl)
+
+returns-11 : tie.Need-returns-11
+unfolding wordText codes
+returns-11 c = rw (c .padded11 .ensures, c .before .before .before .enum-told11 .given .1) (lit≤ tt, refl)
+
+returns-12 : tie.Need-returns-12
+unfolding wordText codes
+returns-12 c = rw (c .padded12 .ensures, c .before .before .before .enum-told12 .given .1) (lit≤ tt, refl)
+
+returns-13 : tie.Need-returns-13
+unfolding wordText codes
+returns-13 c = rw (c .padded13 .ensures, c .before .before .before .enum-told13 .given .1) (lit≤ tt, refl)
+
+returns-14 : tie.Need-returns-14
+unfolding wordText codes
+returns-14 c = rw (c .padded14 .ensures, c .before .before .before .enum-told14 .given .1) (lit≤ tt, refl)
+
+pub word-of-spec : {M : Type 1} → statement M
+word-of-spec =
+    tie.close
+    (tie.spec
+    enum-told
+    padded-requires
+    enum-told-2
+    padded-requires-2
+    enum-told-3
+    padded-requires-3
+    enum-told-4
+    padded-requires-4
+    enum-told-5
+    padded-requires-5
+    enum-told-6
+    padded-requires-6
+    enum-told-7
+    padded-requires-7
+    enum-told-8
+    padded-requires-8
+    enum-told-9
+    padded-requires-9
+    enum-told-10
+    padded-requires-10
+    enum-told-11
+    padded-requires-11
+    enum-told-12
+    padded-requires-12
+    enum-told-13
+    padded-requires-13
+    enum-told-14
+    padded-requires-14
+    returns
+    returns-2
+    returns-3
+    returns-4
+    returns-5
+    returns-6
+    returns-7
+    returns-8
+    returns-9
+    returns-10
+    returns-11
+    returns-12
+    returns-13
+    returns-14)
