@@ -1,0 +1,82 @@
+use Rattle.run.proofs.run_all.Statement.{statement}
+use Rattle.run.proofs.run_all.Tie as tie
+use mathlib.Core.Path.{_≡_, refl, ap, _∙_}
+use Prim.Native.Nat.{_-_}
+use native.Mathlib.Omega.{arith}
+use lib.ListN.{length}
+use Rattle.reader.specs.declared.Next.{Next}
+use Rattle.text.proofs.Laws.{same-size}
+use Rattle.bus.specs.Record.{noParties}
+use Rattle.run.specs.Script.{answerTo, afterOf}
+use Rattle.run.proofs.Records.{next, turn}
+use Rattle.run.proofs.Going.{Going, start, fits, again, ends}
+use borrow.Author.Needs.{needs}
+
+abbrev Inv-loop : tie.InvT-loop
+Inv-loop script out₀ bus₀ at₀ n₀ place₀ out bus at n place = Going script out₀ out bus at n place
+
+abbrev μ-loop : tie.MeasureT-loop
+μ-loop script out₀ bus₀ at₀ n₀ place₀ out bus at n place = length script - at
+
+loop-holds : tie.Need-loop-holds Inv-loop μ-loop
+loop-holds c = start (c .before .before .args .script .now) (c .before .before .args .out .now) noParties refl (c .before .before .pre)
+
+record-requires : tie.Need-record-requires Inv-loop μ-loop
+record-requires c κs = search needs
+
+answer-requires : tie.Need-answer-requires Inv-loop μ-loop
+answer-requires c κs = search needs
+
+put-line-requires : tie.Need-put-line-requires Inv-loop μ-loop
+put-line-requires c κs =
+    let l = c .before .before .before .before in
+    fits (l .loop .inv) (c .before .answer .result) (c .before .before .before .loop-test .taken)
+
+after-requires : tie.Need-after-requires Inv-loop μ-loop
+after-requires c κs = omega arith
+
+add-n : tie.Need-add-n Inv-loop μ-loop
+add-n c = search needs
+
+loop-less : tie.Need-loop-less Inv-loop μ-loop
+loop-less c =
+    let a = c .before .before .before .before .before .before in
+    let l = a .before .before .before in
+    let s = l .before .before .before .args .script .now in
+    let e : c .after .result ≡ next s (l .loop .at) = c .after .ensures ∙ ap (λ (r : Next). afterOf r (l .loop .at) (length s)) (a .before .«record» .ensures) in
+    let t = turn s (l .loop .at) (a .before .before .loop-test .taken) in
+    omega (arith, t .further, t .within, e)
+
+loop-again : tie.Need-loop-again Inv-loop μ-loop
+loop-again c =
+    let p = c .before .before .before .before in
+    let a = p .before .before in
+    let l = a .before .before .before in
+    let s = l .before .before .before .args .script .now in
+    again (l .loop .inv) (a .answer .result) (a .before .before .loop-test .taken)
+    (a .answer .ensures ∙ ap (answerTo (l .loop .bus)) (a .before .«record» .ensures))
+    (p .put-line .ensures) refl
+    (c .after .ensures ∙ ap (λ (r : Next). afterOf r (l .loop .at) (length s)) (a .before .«record» .ensures))
+
+same-length : tie.Need-same-length Inv-loop μ-loop
+same-length c = same-size (c .before .loop .inv .wrote)
+
+returns : tie.Need-returns Inv-loop μ-loop
+returns c = ends (c .before .loop .inv) (c .loop-test .left)
+
+pub run-all-spec : {M : Type 1} → statement M
+run-all-spec =
+    tie.close
+    (tie.spec
+    Inv-loop
+    μ-loop
+    loop-holds
+    record-requires
+    answer-requires
+    put-line-requires
+    after-requires
+    add-n
+    loop-less
+    loop-again
+    same-length
+    returns)
