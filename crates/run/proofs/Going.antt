@@ -36,8 +36,8 @@ start s out b e h =
     }
 
 module _ {s out₀ out : List ℕ} {b : Bus} {at n place : ℕ} (g : Going s out₀ out b at n place) where
-  pub fits : (a : Answer) → at < length s → place + length (lineOf n a) ≤ length out
-  fits a h = omega (arith, g .room, line-length n a)
+  pub fits : at < length s → place + 34 ≤ length out
+  fits h = omega (arith, g .room)
 
   text-turn : at < length s → textFrom b n (records (drop at s)) ≡ lineOf n (answerTo b (recordAt s at)) ++ textFrom (answerTo b (recordAt s at) .bus) (n + 1) (records (drop (next s at) s))
   unfolding textFrom

@@ -1,7 +1,7 @@
 -- The line of an answer, as ASCII codes. "prints per record: number from 1, refusal, event, byte in two lower-case hexadecimal digits (-- if the event has none),
 -- END, dropped, broken" (document 01, "The bus script"); a space between two, and a newline at the end.
 -- Assumes nothing.
-use Prim.Native.Nat.{ℕ, _+_, _/_, _%_, _≤_}
+use Prim.Native.Nat.{ℕ, _+_, _/_, _%_, _≤_, _<_}
 use Prim.Native.Char.{code}
 use Prim.Native.String.{String, [] as []ˢ, _∷_ as _∷ˢ_}
 use mathlib.Core.Path.{_≡_}
@@ -21,6 +21,11 @@ pub record Wrote (before : List ℕ) (at : ℕ) (text after : List ℕ) (r : ℕ
   pub stored : after ≡ sets before at text
   pub next : r ≡ at + length text
   pub fits : r ≤ length after
+
+-- A line where there are 34 bytes from the place on, into which every line fits; without them the buffer and the place stay as they were.
+pub record Put (before : List ℕ) (at : ℕ) (text after : List ℕ) (r : ℕ) : Type 0 where
+  pub written : at + 34 ≤ length before → Wrote before at text after r
+  pub kept : length before < at + 34 → (after ≡ before) × (r ≡ at)
 
 -- The last decimal digit.
 abbrev pub digitOf : ℕ → ℕ

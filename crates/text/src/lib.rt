@@ -1,11 +1,11 @@
 // The text of an answer: one line of busrun's output, written into a lent buffer.
-// Every function says what it wrote, where the next text goes, and that it stayed inside the buffer: `Wrote` in specs/Text.antt.
+// Each says what it wrote, where the next text goes, and that it stayed inside the buffer: `Wrote` in specs/Text.antt.
 ghost use mathlib.Core.Path.{_≡_};
 ghost use mathlib.Core.Bool.{Bool, true, false};
 ghost use Prim.Native.Nat.{ℕ, _+_, _<_, _≤_, _/_, _%_};
 ghost use lib.ListN.{length, take};
 ghost use Rattle.effect.specs.Words.{refusalNumber};
-ghost use Rattle.text.specs.Text.{Wrote, digitOf, hexOf, decimalOf, numberText, wordText, byteText, hasByte, oneIf, headText, eventText, countsText, lineOf};
+ghost use Rattle.text.specs.Text.{Wrote, Put, digitOf, hexOf, decimalOf, numberText, wordText, byteText, hasByte, oneIf, headText, eventText, countsText, lineOf};
 ghost use Rattle.text.specs.declared.Word.{Word};
 use bus::Answer;
 use effect::Refusal;
@@ -209,8 +209,8 @@ fn put_counts(end: bool, dropped: u8, broken: u8, out: &mut [u8], at: usize) -> 
     put_number(broken as usize, b'\n', out, q)
 }
 
-// The line of record n with answer a; the place after it.
-pub fn put_line(n: usize, a: Answer, out: &mut [u8], at: usize) -> usize
+// The line of record n with answer a, where it fits.
+fn put_parts(n: usize, a: Answer, out: &mut [u8], at: usize) -> usize
     requires { ⌜ at + length (lineOf n a) ≤ length (now out) ⌝ }
     ensures { λ r. ⌜ Wrote (now (out .entry)) at (lineOf n a) (now (out .exit)) r ⌝ }
 {
@@ -219,4 +219,18 @@ pub fn put_line(n: usize, a: Answer, out: &mut [u8], at: usize) -> usize
     let p = put_head(n, refusal, out, at);
     let q = put_event(event, a.byte, out, p);
     put_counts(a.end, a.dropped, a.broken, out, q)
+}
+
+// Writes the line of record n with answer a at a place and gives the place behind it. Without 34 bytes, which hold any line, it does nothing.
+pub fn put_line(n: usize, a: Answer, out: &mut [u8], at: usize) -> usize
+    ensures { λ r. ⌜ Put (now (out .entry)) at (lineOf n a) (now (out .exit)) r ⌝ }
+{
+    let size = out.len();
+    if size < 34 {
+        return at;
+    }
+    if size - 34 < at {
+        return at;
+    }
+    put_parts(n, a, out, at)
 }

@@ -3,7 +3,6 @@ use Rattle.run.proofs.run.Statement.{statement}
 use Rattle.run.proofs.run.Tie as tie
 use native.Mathlib.Omega.{arith}
 use borrow.Author.Tests.{lt-ltb, le-ltb}
-use Rattle.text.proofs.Lengths.{line-length}
 use Rattle.text.proofs.Laws.{at-start}
 use Rattle.run.specs.Run.{textOf}
 
@@ -14,7 +13,7 @@ refuse-requires : tie.Need-refuse-requires
 refuse-requires c κs = search needs
 
 put-line-requires : tie.Need-put-line-requires
-put-line-requires c κs = omega (arith, line-length 0 (c .before .refuse .result))
+put-line-requires c κs = search needs
 
 same-length : tie.Need-same-length
 same-length c = search needs
@@ -23,7 +22,7 @@ returns-2 : tie.Need-returns-2
 unfolding textOf
 returns-2 c =
     let r = c .before .before .before .before in
-    rw (lt-ltb _ _ (r .before .before .if1 .taken)) (at-start (rw (r .refuse .ensures) at (c .before .before .put-line .ensures)))
+    rw (lt-ltb _ _ (r .before .before .if1 .taken)) (at-start (rw (r .refuse .ensures) at (c .before .before .put-line .ensures .written (omega arith))))
 
 add-if3 : tie.Need-add-if3
 add-if3 c = search needs

@@ -28,9 +28,7 @@ answer-requires : tie.Need-answer-requires Inv-loop μ-loop
 answer-requires c κs = search needs
 
 put-line-requires : tie.Need-put-line-requires Inv-loop μ-loop
-put-line-requires c κs =
-    let l = c .before .before .before .before in
-    fits (l .loop .inv) (c .before .answer .result) (c .before .before .before .loop-test .taken)
+put-line-requires c κs = search needs
 
 after-requires : tie.Need-after-requires Inv-loop μ-loop
 after-requires c κs = omega arith
@@ -55,7 +53,7 @@ loop-again c =
     let s = l .before .before .before .args .script .now in
     again (l .loop .inv) (a .answer .result) (a .before .before .loop-test .taken)
     (a .answer .ensures ∙ ap (answerTo (l .loop .bus)) (a .before .«record» .ensures))
-    (p .put-line .ensures) refl
+    (p .put-line .ensures .written (fits (l .loop .inv) (a .before .before .loop-test .taken))) refl
     (c .after .ensures ∙ ap (λ (r : Next). afterOf r (l .loop .at) (length s)) (a .before .«record» .ensures))
 
 same-length : tie.Need-same-length Inv-loop μ-loop
