@@ -1,3 +1,4 @@
 pub mod Records
 pub mod Going
 pub mod Building
+pub mod Examples

@@ -1,0 +1,11 @@
+-- The example scripts give their text: computed.
+-- Assumes nothing.
+use mathlib.Core.Path.{refl}
+use Rattle.text.specs.Text.{codes, decimalOf, numberText, wordText, byteText, headText, eventText, countsText, lineOf}
+use Rattle.run.specs.Script.{orderOf, countUp, buildFrom, obey, answerTo}
+use Rattle.run.specs.Run.{records, textFrom, textOf}
+use Rattle.run.specs.Examples.{Holds}
+
+pub examples : Holds
+unfolding codes decimalOf numberText wordText byteText headText eventText countsText lineOf orderOf countUp buildFrom obey answerTo records textFrom textOf
+examples = record { document = refl; empty = refl; wrong-mark = refl; short-tail = refl; unknown = refl }
