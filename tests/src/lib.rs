@@ -8,6 +8,7 @@ pub mod guided;
 pub mod ledger;
 pub mod model;
 pub mod plan;
+pub mod product;
 pub mod random;
 pub mod run;
 pub mod script;

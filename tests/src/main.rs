@@ -9,7 +9,8 @@ use std::process::ExitCode;
 use std::sync::atomic::{AtomicBool, Ordering};
 
 use meskvorn_tests::run;
-use meskvorn_tests::subject::{ModelSubject, Subject};
+use meskvorn_tests::product::Product;
+use meskvorn_tests::subject::Subject;
 
 const SEED: u64 = 488;
 const GATE_RECORDS: u64 = 6_000_000;
@@ -17,7 +18,7 @@ const SPEED_RECORDS: usize = 2_000_000;
 
 /// The thing under test.
 fn subject() -> Box<dyn Subject> {
-    Box::new(ModelSubject::default())
+    Box::new(Product::default())
 }
 
 /// Shortening a script runs a failing subject many times; only its first panic is shown.

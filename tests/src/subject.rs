@@ -11,8 +11,8 @@ pub trait Subject {
     /// Makes the kept bus the bus of no parties.
     fn start(&mut self);
 
-    /// One record on the kept bus.
-    fn record(&mut self, record: Record) -> Answer;
+    /// One record on the kept bus. None if the subject takes whole scripts only: its text then decides.
+    fn record(&mut self, record: Record) -> Option<Answer>;
 
     /// Builds the kept bus from addresses in any order, as no record can.
     /// None if the subject has no such call.
@@ -36,8 +36,8 @@ impl Subject for ModelSubject {
         self.bus = Bus::new();
     }
 
-    fn record(&mut self, record: Record) -> Answer {
-        script::run_record(&mut self.bus, record)
+    fn record(&mut self, record: Record) -> Option<Answer> {
+        Some(script::run_record(&mut self.bus, record))
     }
 
     fn build(&mut self, addresses: &[u8], system: u8) -> Option<Answer> {

@@ -46,8 +46,8 @@ impl Subject for Wrong {
         self.bus = Bus::new();
     }
 
-    fn record(&mut self, record: Record) -> Answer {
-        self.call(record)
+    fn record(&mut self, record: Record) -> Option<Answer> {
+        Some(self.call(record))
     }
 
     fn build(&mut self, addresses: &[u8], system: u8) -> Option<Answer> {

@@ -157,7 +157,7 @@ impl Subject for WrongText {
     fn start(&mut self) {
         self.0.start();
     }
-    fn record(&mut self, record: Record) -> meskvorn_tests::model::Answer {
+    fn record(&mut self, record: Record) -> Option<meskvorn_tests::model::Answer> {
         self.0.record(record)
     }
 }
