@@ -1,5 +1,6 @@
 //! A second model of document 01, and the driver that compares it with a subject.
 
+pub mod bench;
 pub mod builds;
 pub mod compare;
 pub mod compose;

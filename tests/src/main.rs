@@ -1,20 +1,20 @@
 //! Compares the model with a subject.
 //!
 //! No argument: the gate run. `long N [SEED]`: N million records. `vectors DIR`: all scripts of a
-//! folder against their texts. `speed`: the model alone.
+//! folder against their texts. `bench`: the subject's speed beside the model's.
 
 use std::panic;
 use std::path::Path;
 use std::process::ExitCode;
 use std::sync::atomic::{AtomicBool, Ordering};
 
+use meskvorn_tests::bench;
 use meskvorn_tests::run;
 use meskvorn_tests::product::Product;
 use meskvorn_tests::subject::Subject;
 
 const SEED: u64 = 488;
 const GATE_RECORDS: u64 = 6_000_000;
-const SPEED_RECORDS: usize = 2_000_000;
 
 /// The thing under test.
 fn subject() -> Box<dyn Subject> {
@@ -33,7 +33,7 @@ fn show_first_panic_only() {
 }
 
 fn usage() -> bool {
-    eprintln!("usage: meskvorn-tests [long MILLIONS [SEED] | vectors DIR | speed]");
+    eprintln!("usage: meskvorn-tests [long MILLIONS [SEED] | vectors DIR | bench]");
     false
 }
 
@@ -63,8 +63,8 @@ fn main() -> ExitCode {
         ["long", millions] => long(millions, None),
         ["long", millions, seed] => long(millions, Some(seed)),
         ["vectors", folder] => vectors(folder),
-        ["speed"] => {
-            run::speed(SEED, SPEED_RECORDS);
+        ["bench"] => {
+            bench::run();
             true
         }
         _ => usage(),

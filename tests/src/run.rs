@@ -1,4 +1,4 @@
-//! The runs that the program offers: the random run, the vectors, and the model's speed.
+//! The runs that the program offers: the random run and the vectors.
 
 use std::fs;
 use std::path::{Path, PathBuf};
@@ -8,8 +8,7 @@ use crate::builds;
 use crate::compare::{compare, Comparison, Finding};
 use crate::edges;
 use crate::guided::Guided;
-use crate::model::Bus;
-use crate::script::{self, Record, RECORD};
+use crate::script;
 use crate::subject::Subject;
 use crate::systematic;
 use crate::tally::Tally;
@@ -136,33 +135,4 @@ pub fn vectors(subject: &mut dyn Subject, folder: &Path) -> std::io::Result<bool
     }
     println!("{} vectors", scripts.len());
     Ok(good)
-}
-
-/// Times the model alone: no ledger, no subject, no text.
-pub fn speed(seed: u64, records: usize) {
-    let mut guided = Guided::new(seed);
-    let mut all: Vec<Record> = Vec::new();
-    while all.len() < records {
-        all.extend(
-            guided
-                .script()
-                .chunks_exact(RECORD)
-                .filter_map(|c| Record::try_from(c).ok()),
-        );
-    }
-    let start = Instant::now();
-    let mut bus = Bus::new();
-    let mut sum = 0u64;
-    for record in &all {
-        let answer = script::run_record(&mut bus, *record);
-        sum = sum
-            .wrapping_mul(31)
-            .wrapping_add(u64::from(answer.byte) + answer.event as u64);
-    }
-    let seconds = start.elapsed().as_secs_f64();
-    let rate = all.len() as f64 / seconds;
-    println!(
-        "{} records, {rate:.0} records per second (sum {sum})",
-        all.len()
-    );
 }

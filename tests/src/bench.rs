@@ -1,0 +1,90 @@
+//! Records per second of the proved library and of the model, in one run and on the same scripts.
+
+use std::hint::black_box;
+use std::time::{Duration, Instant};
+
+use crate::product::Product;
+use crate::script::{
+    self, record, Record, BUILD, LISTEN, LONGEST, READ, RECORD, STEP, TALK, WRITE,
+};
+use crate::subject::Subject;
+
+/// What a real bus carries.
+const REAL_BYTES_PER_SECOND: f64 = 1_000_000.0;
+
+const LEAST: Duration = Duration::from_millis(300);
+const ROUNDS: usize = 5;
+
+/// A script of data bytes from one talker to all others, with how many bytes it carries.
+struct Traffic {
+    parties: u8,
+    script: Vec<u8>,
+    bytes: usize,
+}
+
+/// One byte: written, four rounds of turns from its offer to its end, and read by each listener.
+fn byte_of(parties: u8, value: u8) -> Vec<Record> {
+    let turns = (0..4).flat_map(|_| (0..parties).map(|party| record(STEP, party, 0, 0)));
+    let reads = (1..parties).map(|party| record(READ, party, 0, 0));
+    std::iter::once(record(WRITE, 0, value, 0)).chain(turns).chain(reads).collect()
+}
+
+fn traffic(parties: u8) -> Traffic {
+    let mut script = record(BUILD, 0, parties, 1).to_vec();
+    script.extend(record(TALK, 0, 1, 0));
+    script.extend((1..parties).flat_map(|party| record(LISTEN, party, 1, 0)));
+    let mut bytes = 0;
+    loop {
+        let next = byte_of(parties, bytes as u8).concat();
+        if script.len() + next.len() > LONGEST {
+            return Traffic { parties, script, bytes };
+        }
+        script.extend(next);
+        bytes += 1;
+    }
+}
+
+/// The shortest time of one run of the script, of several rounds.
+fn fastest(mut run: impl FnMut(&mut Vec<u8>)) -> f64 {
+    let mut out = Vec::new();
+    let mut best = f64::MAX;
+    for _ in 0..ROUNDS {
+        let start = Instant::now();
+        let mut runs = 0.0;
+        while start.elapsed() < LEAST {
+            out.clear();
+            run(&mut out);
+            black_box(&out);
+            runs += 1.0;
+        }
+        best = best.min(start.elapsed().as_secs_f64() / runs);
+    }
+    best
+}
+
+fn row(traffic: &Traffic) {
+    let records = (traffic.script.len() / RECORD) as f64;
+    let mut product = Product::default();
+    let proved = fastest(|out| product.run_script(&traffic.script, out));
+    let model = fastest(|out| script::run(&traffic.script, out));
+    let bytes = traffic.bytes as f64;
+    println!(
+        "| {} | {:.0} | {:.1} | {:.1} | {:.2} | {:.0} | {:.0} % |",
+        traffic.parties,
+        records / bytes,
+        records / proved / 1e6,
+        records / model / 1e6,
+        proved / model,
+        bytes / proved,
+        100.0 * bytes / proved / REAL_BYTES_PER_SECOND,
+    );
+}
+
+/// Prints the table.
+pub fn run() {
+    println!("| parties | calls a byte | library, million records a second | model, the same | time against the model | bytes a second | of a real bus |");
+    println!("|---|---|---|---|---|---|---|");
+    for parties in [2, 5, 15] {
+        row(&traffic(parties));
+    }
+}
