@@ -1,29 +1,25 @@
--- What a call reads at a slot of the array is what the machine reads at the place; and how a call's answer is put together.
+-- What a call reads at a slot of the array is what the machine reads at the place.
 -- Assumes nothing.
-use mathlib.Core.Path.{_≡_, refl, sym, ap, _∙_}
+use mathlib.Core.Path.{_≡_, refl}
 use mathlib.Core.Bool.{Bool, true, false, not}
 use mathlib.Core.List.{List}
 use Prim.Native.Nat.{ℕ, _≤_}
 use native.Mathlib.Omega.{arith}
 use lib.Dec.{ltb, eqb}
-use lib.ListN.{length, set, length-set, List·getD-eq-default}
+use lib.ListN.{length, List·getD-eq-default}
 use borrow.Author.Tests.{ltb-false}
 use Rattle.party.specs.Parts.{idle}
 use Rattle.party.specs.Sending.{isSource}
 use Rattle.party.proofs.Logic.{no, test}
 use Rattle.parties.specs.Places.{at, slot, otherTalker, isFound}
-use Rattle.parties.specs.Lines.{scanOf}
-use Rattle.bus.specs.Types.{Place, Party, Scan, Standing, Nothing, Byte, Bus, Call, Refusal, After, Effect}
+use Rattle.bus.specs.Types.{Party, Standing, Nothing, Byte, Bus, Call, Refusal}
 use Rattle.bus.specs.Types.call-of
-use Rattle.bus.specs.Types.after
 use Rattle.effect.specs.Words.{isAccepted}
-use Rattle.bus.specs.Record.{here, lines, refuse}
-use Rattle.effect.specs.Stands.{hasEnd, sendsCommand, senderSlot, left}
-use Rattle.bus.specs.Settling.{settleAs, deserted}
+use Rattle.bus.specs.Record.{here, lines}
+use Rattle.effect.specs.Stands.{sendsCommand, senderSlot, left}
+use Rattle.bus.specs.Settling.{deserted}
 use Rattle.effect.specs.Refusals.{placeOf, ofParty, isInside, judge}
-use Rattle.bus.specs.Machine.{refusal, refusalAt, call}
-use Rattle.bus.specs.Following.{touch, followed}
-use Rattle.effect.specs.Effects.{effectOf}
+use Rattle.bus.specs.Machine.{refusal, refusalAt}
 
 slot-in : (i : ℕ) → ltb i 15 ≡ true → slot i ≡ i
 slot-in i e = rw e refl
@@ -81,41 +77,3 @@ left-seat t ps (Byte s k v e) z = test (ltb (s .0) 15) (λ h. rw h refl) (λ h. 
     mute : (t : Bool) → true ≡ not (isSource t idle)
     mute true = refl
     mute false = refl
-
--- What a call c on the bus b has read before it is judged.
-pub record Seen (b : Bus) (c : Call) : Type 0 where
-  pub i : Place
-  pub k : ℕ
-  pub eoi : Bool
-  pub s : Scan
-  pub placed : i ≡ placeOf c
-  pub seated : k ≡ slot (i .0)
-  pub ended : eoi ≡ hasEnd (b .standing)
-  pub scanned : s ≡ scanOf k (b .count) (b .parties) eoi
-
-module _ (b : Bus) (c : Call) (w : Seen b c) where
-  pub ruled : (inside sends another : Bool) (r : Refusal) → inside ≡ isInside (b .count) (w .i .0) → sends ≡ sendsCommand (w .i .0) (b .standing) → another ≡ isFound (w .s .talker)
-      → r ≡ judge inside (at (b .parties) (w .k)) (w .s .lines .atn) another sends (eqb (w .i .0) (b .system .0)) c → r ≡ refusal (lines b) b c
-  ruled inside sends another r ei es ea er = rw (er, ei, es, ea, w .scanned, w .seated, w .placed) (judge-seat b (placeOf c .0) c)
-
-  pub refuses : (r : Refusal) → r ≡ refusal (lines b) b c → isAccepted r ≡ false → refuse r b ≡ call b c
-  refuses r e f = rw (sym e, f) refl
-
-  -- An accepted call has effect e.
-  module _ (r : Refusal) (judged : r ≡ refusal (lines b) b c) (accepted : isAccepted r ≡ true) (e : Effect) (effected : e ≡ effectOf (w .s .lines) (w .s .talker) (b .standing) (at (b .parties) (w .k)) c) where
-    ok : isAccepted (refusal (lines b) b c) ≡ true
-    ok = ap isAccepted (sym judged) ∙ accepted
-
-    follows-at : followed (e .after) (lines b .atn) b (placeOf c .0) e ≡ call b c
-    follows-at = rw (effected, w .scanned, w .ended, w .seated, w .placed, seat b c ok, ok) refl
-
-    pub follows : (x : After) → e .after ≡ x → followed x (lines b .atn) b (w .i .0) e ≡ call b c
-    follows x h = rw (sym h, w .placed) follows-at
-
-    pub settles : e .after ≡ after.Settle → length (b .parties) ≡ 15 → (j : ℕ) (source off : Bool) → j ≡ senderSlot (e .standing)
-        → source ≡ isSource (w .s .lines .atn) (at (set (b .parties) (w .k) (e .party)) j) → off ≡ left source (e .standing)
-        → settleAs (w .s .lines .atn) off b (e .said) (set (b .parties) (w .k) (e .party)) (e .standing) ≡ call b c
-    settles h z j source off ej es eo = rw (eo, es, ej, left-seat (w .s .lines .atn) (set (b .parties) (w .k) (e .party)) (e .standing) (length-set (b .parties) (w .k) (e .party) ∙ z)) here-settled
-      where
-        here-settled : touch (w .s .lines .atn) b (w .k) e ≡ call b c
-        here-settled = rw (w .scanned, w .seated, w .placed, seat b c ok) (rw h at follows-at)

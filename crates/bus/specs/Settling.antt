@@ -11,21 +11,21 @@ use Rattle.bus.specs.Types.{Party, Standing, Nothing, Byte, Bus, Answer,
 use Rattle.bus.specs.Types.ruling
 use Rattle.effect.specs.Stands.{stands}
 
--- The answer of an accepted call that leaves the parties ps. `off` says that what stands is broken off.
-abbrev pub answered : Bool → Bus → Said → List Party → Standing → Answer
-answered off b s ps st = record {
+-- The answer of an accepted call that leaves the bus b. `off` says that what stood was broken off.
+abbrev pub answered : Bool → Said → Bus → Answer
+answered off s b = record {
   refusal = ruling.Accepted;
   event = s .event;
   byte = s .byte;
   end = s .end;
   dropped = s .dropped;
   broken = one off;
-  bus = record { parties = ps; count = b .count; system = b .system; standing = cond off Nothing st };
+  bus = b;
 }
 
 -- "After each accepted call every party settles."
 abbrev pub settleAs : Bool → Bool → Bus → Said → List Party → Standing → Answer
-settleAs atn off b s ps st = answered off b s (each (b .count) (settled atn) ps) st
+settleAs atn off b s ps st = answered off s (record { parties = each (b .count) (settled atn) ps; count = b .count; system = b .system; standing = cond off Nothing st })
 
 -- "A non-source goes to SIDS, its own standing byte broken off": its sender is no source any more.
 abbrev pub deserted : Bool → List Party → Standing → Bool

@@ -2,8 +2,7 @@
 ghost use mathlib.Core.Path.{_≡_};
 ghost use Prim.Native.Nat.{_≤_};
 ghost use lib.ListN.{length};
-ghost use Rattle.bus.specs.Record.{placed, built, anyOver30, isAmong, twoEqual, badBuild, build, refuse};
-ghost use Rattle.bus.specs.Types.ruling;
+ghost use Rattle.bus.specs.Record.{placed, anyOver30, isAmong, twoEqual, badBuild, build};
 use crate::Answer;
 use crate::Bus;
 use effect::Refusal;
@@ -86,30 +85,20 @@ fn parties_at(addresses: &[u8]) -> [Party; 15]
     out
 }
 
-fn bus_of(addresses: &[u8], system: Place) -> Answer
-    requires { ⌜ length (now addresses) ≤ 15 ⌝ }
-    ensures { λ r. ⌜ r ≡ refuse ruling.Accepted (built (now (addresses .entry)) system) ⌝ }
-{
-    let parties = parties_at(addresses);
-    let count = (addresses.len() % 256) as u8;
-    let bus = Bus {
-        parties,
-        count,
-        system,
-        standing: Standing::Nothing,
-    };
-    bus.refuse(Refusal::Accepted)
-}
-
 impl Bus {
     // A bus with a party at each address; a refused build gives the bus of no parties.
     pub fn build(addresses: &[u8], system: Place) -> Answer
         ensures { λ r. ⌜ r ≡ build (now (addresses .entry)) system ⌝ }
     {
         if is_bad(addresses, system) {
-            Bus::EMPTY.refuse(Refusal::BadBuild)
-        } else {
-            bus_of(addresses, system)
+            return Bus::EMPTY.refuse(Refusal::BadBuild);
         }
+        let bus = Bus {
+            parties: parties_at(addresses),
+            count: (addresses.len() % 256) as u8,
+            system,
+            standing: Standing::Nothing,
+        };
+        bus.refuse(Refusal::Accepted)
     }
 }

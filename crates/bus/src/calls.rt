@@ -3,7 +3,6 @@ ghost use mathlib.Core.Path.{_≡_};
 ghost use Rattle.bus.specs.Machine.{call};
 use crate::Answer;
 use crate::Bus;
-use effect::After;
 use effect::Call;
 use effect::accepted::effect_of;
 use effect::refusals::is_inside;
@@ -14,7 +13,7 @@ use party::Place;
 
 impl Bus {
     // Any operation other than build.
-    pub fn call(mut self, c: Call) -> Answer
+    pub fn call(self, c: Call) -> Answer
         ensures { λ r. ⌜ r ≡ call self c ⌝ }
     {
         let i = c.place();
@@ -32,23 +31,7 @@ impl Bus {
         let chief = i.0 == system.0;
         let r = judged(c, inside, p, l.atn, another, sends, chief);
         if r.is_accepted() {
-            let e = effect_of(c, s, st, p);
-            let after = e.after;
-            match after {
-                After::Settle => {
-                    let said = e.said;
-                    let party = e.party;
-                    let standing = e.standing;
-                    self.parties[at] = party;
-                    let k = standing.sender_slot();
-                    let sender = self.parties[k];
-                    let off = standing.is_left(sender.is_source(l.atn));
-                    self.settle(l.atn, off, said, standing)
-                }
-                After::Pass(j) => self.pass(i, e, j),
-                After::Attend => self.alarm(i, e),
-                After::Clear => self.clear(i, e),
-            }
+            self.follow(l.atn, i, effect_of(c, s, st, p))
         } else {
             self.refuse(r)
         }

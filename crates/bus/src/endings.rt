@@ -1,10 +1,11 @@
 // How a call ends: refused; or its changes made, with attention where it is due, and every party settled.
 ghost use mathlib.Core.Path.{_≡_};
 ghost use Rattle.bus.specs.Record.{refuse};
-ghost use Rattle.bus.specs.Settling.{settleAs, attend};
-ghost use Rattle.bus.specs.Following.{alarm, pass, clearAll};
+ghost use Rattle.bus.specs.Settling.{answered, attend};
+ghost use Rattle.bus.specs.Following.{touch, pass, clearAll, follow};
 use crate::Answer;
 use crate::Bus;
+use effect::After;
 use effect::Effect;
 use effect::Refusal;
 use effect::Said;
@@ -12,8 +13,8 @@ use effect::Standing;
 use parties::Change;
 use parties::every::change_all;
 use parties::every::clear_drops;
-use parties::every::is_attended;
 use parties::every::party_at;
+use parties::every::scan;
 use parties::every::with_party;
 use parties::every::within_places;
 use party::Control;
@@ -37,29 +38,11 @@ impl Bus {
         }
     }
 
-    // Every party settles; `off` says that what stands is broken off. The loop stands twice so that ATN is tested once.
-    pub fn settle(mut self, atn: bool, off: bool, said: Said, st: Standing) -> Answer
-        ensures { λ r. ⌜ r ≡ settleAs atn off self said (self .parties) st ⌝ }
+    // The answer of an accepted call that leaves this bus; `off` says that a byte was broken off.
+    fn answer(self, said: Said, off: bool) -> Answer
+        ensures { λ r. ⌜ r ≡ answered off said self ⌝ }
     {
-        let n = within_places(self.count);
-        let mut k: usize = 0;
-        if atn {
-            while k < n {
-                let p = self.parties[k];
-                self.parties[k] = p.settled(true);
-                k = k + 1;
-            }
-        } else {
-            while k < n {
-                let p = self.parties[k];
-                self.parties[k] = p.settled(false);
-                k = k + 1;
-            }
-        }
-        let parties = self.parties;
-        let system = self.system;
         let event = said.event;
-        let standing = st.unless(off);
         Answer {
             refusal: Refusal::Accepted,
             event,
@@ -67,44 +50,71 @@ impl Bus {
             end: said.end,
             dropped: said.dropped,
             broken: one(off),
-            bus: Bus {
-                parties,
-                count: self.count,
-                system,
-                standing,
-            },
+            bus: self,
         }
+    }
+
+    // The effect on party i is made, and every party settles. The loop stands twice so that ATN is tested once.
+    fn settle(self, atn: bool, i: Place, e: Effect) -> Answer
+        ensures { λ r. ⌜ r ≡ touch atn self (i .0) e ⌝ }
+    {
+        let said = e.said;
+        let party = e.party;
+        let st = e.standing;
+        let system = self.system;
+        let mut parties = self.parties;
+        let at = i.0 as usize;
+        if at < 15 {
+            parties[at] = party;
+        }
+        let sender = parties[st.sender_slot()];
+        let off = st.is_left(sender.is_source(atn));
+        let n = within_places(self.count);
+        let mut k: usize = 0;
+        if atn {
+            while k < n {
+                let p = parties[k];
+                parties[k] = p.settled(true);
+                k = k + 1;
+            }
+        } else {
+            while k < n {
+                let p = parties[k];
+                parties[k] = p.settled(false);
+                k = k + 1;
+            }
+        }
+        let standing = st.unless(off);
+        let bus = Bus {
+            parties,
+            count: self.count,
+            system,
+            standing,
+        };
+        bus.answer(said, off)
     }
 
     // Attention: a standing byte is broken off, and every party heeds ATN as it then is, and settles.
     fn attend(self, said: Said, ps: [Party; 15], st: Standing) -> Answer
         ensures { λ r. ⌜ r ≡ attend self said ps st ⌝ }
     {
-        let atn = is_attended(ps, self.count);
-        let parties = change_all(ps, self.count, Change::Attend(atn));
+        let s = scan(ps, self.count, 0, false);
+        let l = s.lines;
+        let parties = change_all(ps, self.count, Change::Attend(l.atn));
         let system = self.system;
-        let heeded = Bus {
+        let off = st.stands();
+        let standing = st.unless(off);
+        let bus = Bus {
             parties,
             count: self.count,
             system,
-            standing: st,
+            standing,
         };
-        heeded.settle(atn, st.stands(), said, st)
-    }
-
-    // Party i has changed who is active.
-    pub fn alarm(self, i: Place, e: Effect) -> Answer
-        ensures { λ r. ⌜ r ≡ alarm self (i .0) e ⌝ }
-    {
-        let said = e.said;
-        let party = e.party;
-        let standing = e.standing;
-        let ps = self.parties;
-        self.attend(said, with_party(ps, i, party), standing)
+        bus.answer(said, off)
     }
 
     // Control goes from party i, whose TCT has ended, to party j.
-    pub fn pass(self, i: Place, e: Effect, j: Place) -> Answer
+    fn pass(self, i: Place, e: Effect, j: Place) -> Answer
         ensures { λ r. ⌜ r ≡ pass self (i .0) e (j .0) ⌝ }
     {
         let said = e.said;
@@ -123,7 +133,7 @@ impl Bus {
     }
 
     // Every party is cleared; the system party, i, is as its effect has it.
-    pub fn clear(self, i: Place, e: Effect) -> Answer
+    fn clear(self, i: Place, e: Effect) -> Answer
         ensures { λ r. ⌜ r ≡ clearAll self (i .0) e ⌝ }
     {
         let party = e.party;
@@ -134,5 +144,22 @@ impl Bus {
         let told = Said::say(Event::None, 0, false, dropped);
         let all = change_all(ps, self.count, Change::Clear);
         self.attend(told, with_party(all, i, party), standing)
+    }
+
+    // What follows on the effect of a call of party i.
+    pub fn follow(self, atn: bool, i: Place, e: Effect) -> Answer
+        ensures { λ r. ⌜ r ≡ follow atn self (i .0) e ⌝ }
+    {
+        let said = e.said;
+        let party = e.party;
+        let standing = e.standing;
+        let after = e.after;
+        let ps = self.parties;
+        match after {
+            After::Settle => self.settle(atn, i, e),
+            After::Pass(j) => self.pass(i, e, j),
+            After::Attend => self.attend(said, with_party(ps, i, party), standing),
+            After::Clear => self.clear(i, e),
+        }
     }
 }

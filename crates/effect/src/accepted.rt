@@ -2,6 +2,7 @@
 ghost use mathlib.Core.Path.{_≡_};
 ghost use Rattle.effect.specs.Step.{effect};
 ghost use Rattle.effect.specs.Effects.{effectOf};
+use crate::After;
 use crate::Call;
 use crate::Effect;
 use crate::Said;
@@ -35,6 +36,7 @@ pub fn effect_of(c: Call, s: Scan, st: Standing, p: Party) -> Effect
     ensures { λ r. ⌜ r ≡ effectOf (s .lines) (s .talker) st p c ⌝ }
 {
     let l = s.lines;
+    let role = p.role;
     let input = p.input;
     match c {
         Call::Step(i) => stepped(s, st, i, p),
@@ -42,10 +44,18 @@ pub fn effect_of(c: Call, s: Scan, st: Standing, p: Party) -> Effect
         Call::Read(_) => host_calls::taken_out(input, st, p),
         Call::PollRegister(_, v) => host_calls::registered(v, st, p),
         Call::ListenOnly(_, on) => host_calls::listening(is_on(on), l, st, p),
-        Call::TalkOnly(_, on) => host_calls::talking(is_on(on), st, p),
+        Call::TalkOnly(_, on) => Effect::quiet(
+            0,
+            st,
+            p.with_role(role.with_flags(is_on(on), role.listen)),
+        ),
         Call::TakeControl(_) => host_calls::in_control(Control::Active, st, p),
         Call::GoToStandby(_) => host_calls::in_control(Control::Standby, st, p),
-        Call::InterfaceClear(_) => host_calls::cleared(st, p),
+        Call::InterfaceClear(_) => Effect::quiet(
+            0,
+            st,
+            p.cleared().change_control(Control::Active),
+        ).then(After::Clear),
         Call::Reset(_) => host_calls::reset(l, st, p),
         Call::Drop(_) => Effect::quiet(p.held_bytes(), st, p.with_held(Slot::Empty)),
         Call::Lines => Effect::does(Said::say(Event::Lines, l.byte(), false, 0), p, st),

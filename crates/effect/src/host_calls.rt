@@ -1,6 +1,6 @@
 // What the host's calls do to their own party, once they are accepted.
 ghost use mathlib.Core.Path.{_≡_};
-ghost use Rattle.effect.specs.Calls.{read, pollRegister, listenAcceptor, listenOnly, talkOnly, controlled, resetAcceptor, reset, clear};
+ghost use Rattle.effect.specs.Calls.{read, pollRegister, listenAcceptor, listenOnly, controlled, resetAcceptor, reset};
 use crate::After;
 use crate::Effect;
 use crate::Said;
@@ -67,13 +67,6 @@ pub fn listening(on: bool, l: Lines, st: Standing, p: Party) -> Effect
     Effect::quiet(0, st, q.with_role(role.with_flags(role.talk, on)))
 }
 
-pub fn talking(on: bool, st: Standing, p: Party) -> Effect
-    ensures { λ r. ⌜ r ≡ talkOnly on st p ⌝ }
-{
-    let role = p.role;
-    Effect::quiet(0, st, p.with_role(role.with_flags(on, role.listen)))
-}
-
 pub fn in_control(control: Control, st: Standing, p: Party) -> Effect
     ensures { λ r. ⌜ r ≡ controlled control st p ⌝ }
 {
@@ -105,11 +98,4 @@ pub fn reset(l: Lines, st: Standing, p: Party) -> Effect
     } else {
         Effect::quiet(dropped, st, wiped.with_acceptor(reset_acceptor(l)))
     }
-}
-
-// The system party as an interface clear leaves it.
-pub fn cleared(st: Standing, p: Party) -> Effect
-    ensures { λ r. ⌜ r ≡ clear st p ⌝ }
-{
-    Effect::quiet(0, st, p.cleared().change_control(Control::Active)).then(After::Clear)
 }

@@ -2,7 +2,7 @@
 ghost use mathlib.Core.Path.{_≡_};
 ghost use mathlib.Core.Bool.{cond};
 ghost use Rattle.effect.specs.Words.{isAccepted};
-ghost use Rattle.effect.specs.Refusals.{placeOf, isKnown, isInside, ofSwitch, isOn, inStandby, listenRefusal, talkRefusal, standbyRefusal, own, judge};
+ghost use Rattle.effect.specs.Refusals.{placeOf, isKnown, isInside, isOn, inStandby, listenRefusal, talkRefusal, standbyRefusal, own, judge};
 use crate::Call;
 use crate::Refusal;
 use party::Control;
@@ -85,13 +85,6 @@ fn when(test: bool, yes: Refusal, no: Refusal) -> Refusal
     if test { yes } else { no }
 }
 
-// A refusal where the value is no switch, else another or none.
-fn of_switch(x: u8, r: Refusal) -> Refusal
-    ensures { λ a. ⌜ a ≡ ofSwitch x r ⌝ }
-{
-    if 1 < x { Refusal::BadValue } else { r }
-}
-
 pub fn is_on(x: u8) -> bool
     ensures { λ r. ⌜ r ≡ isOn x ⌝ }
 {
@@ -165,14 +158,23 @@ fn met(c: Call, p: Party, atn: bool, another: bool, sends: bool, chief: bool) ->
     let input = p.input;
     match c {
         Call::Step(_) => Refusal::Accepted,
-        Call::Write(_, _, e) => of_switch(
-            e,
+        Call::Write(_, _, e) => when(
+            1 < e,
+            Refusal::BadValue,
             when(held.is_full(), Refusal::Full, Refusal::Accepted),
         ),
         Call::Read(_) => when(input.is_full(), Refusal::Accepted, Refusal::Empty),
         Call::PollRegister(_, _) => Refusal::Accepted,
-        Call::ListenOnly(_, on) => of_switch(on, listen_refusal(is_on(on), role.talk)),
-        Call::TalkOnly(_, on) => of_switch(on, talk_refusal(is_on(on), role.listen, atn, another)),
+        Call::ListenOnly(_, on) => when(
+            1 < on,
+            Refusal::BadValue,
+            listen_refusal(is_on(on), role.talk),
+        ),
+        Call::TalkOnly(_, on) => when(
+            1 < on,
+            Refusal::BadValue,
+            talk_refusal(is_on(on), role.listen, atn, another),
+        ),
         Call::TakeControl(_) => when(in_standby(control), Refusal::Accepted, Refusal::Role),
         Call::GoToStandby(_) => standby_refusal(p.is_active(), sends),
         Call::InterfaceClear(_) => when(chief, Refusal::Accepted, Refusal::Role),

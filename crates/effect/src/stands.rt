@@ -9,16 +9,6 @@ use parties::every::slot;
 use party::Kind;
 use party::Place;
 
-fn is_command(kind: Kind, own: bool) -> bool
-    ensures { λ r. ⌜ r ≡ cond (ofCommand kind) own false ⌝ }
-{
-    match kind {
-        Kind::Command => own,
-        Kind::Data => false,
-        Kind::Status => false,
-    }
-}
-
 impl Standing {
     pub fn stands(self) -> bool
         ensures { λ r. ⌜ r ≡ stands self ⌝ }
@@ -59,7 +49,11 @@ impl Standing {
                 kind,
                 value: _,
                 end: _,
-            } => is_command(kind, p.0 == sender.0),
+            } => match kind {
+                Kind::Command => p.0 == sender.0,
+                Kind::Data => false,
+                Kind::Status => false,
+            },
         }
     }
 

@@ -63,6 +63,12 @@ at-each-all n f ps k l tail = fun-ext (λ j. go j (ltb j n) refl)
     go j true e = each-below n f ps j (ltb-true j n e) l
     go j false e = each-past n f ps j (ltb-false j n e) ∙ tail j (ltb-false j n e) ∙ sym k ∙ ap f (sym (tail j (ltb-false j n e)))
 
+-- one change after another, in two passes or in one
+pub each-each : (n : ℕ) (f g : Party → Party) (ps : List Party) → each n (λ p. f (g p)) ps ≡ each n f (each n g ps)
+each-each zero f g ps = refl
+each-each (suc n) f g [] = refl
+each-each (suc n) f g (p ∷ ps) = ap (_∷_ (f (g p))) (each-each n f g ps)
+
 -- some
 pub some-at : (n : ℕ) (f : Party → Bool) (ps : List Party) → f idle ≡ false → (j : ℕ) → j < n → f (at ps j) ≡ true → some n f ps ≡ true
 some-at zero f ps h j l e = absurd (not-suc-le-zero l)

@@ -6,7 +6,7 @@ use mathlib.Core.List.{List, [], _∷_}
 use lib.ListN.{getD, set}
 use lib.Dec.{ltb}
 use Rattle.party.specs.Parts.{idle}
-use Rattle.party.specs.Settling.{attended}
+use Rattle.party.specs.Settling.{attended, settled}
 use Rattle.party.specs.Clearing.{cleared}
 use Rattle.parties.specs.Types.{Place, Party, Found, Nowhere, At, Change, Attend, Clear}
 
@@ -68,5 +68,5 @@ seek Nowhere p hit = cond hit (At p) Nowhere
 seek (At q) p hit = At q
 
 abbrev pub changed : Change → Party → Party
-changed (Attend atn) p = attended atn p
+changed (Attend atn) p = settled atn (attended atn p)
 changed Clear p = cleared p

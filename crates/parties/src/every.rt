@@ -4,9 +4,8 @@ ghost use mathlib.Core.Bool.{not, _&&_, _||_};
 ghost use Prim.Native.Nat.{_+_, _≤_, _<_};
 ghost use lib.ListN.{set};
 ghost use Rattle.party.specs.Clearing.{clearDrops};
-ghost use Rattle.parties.specs.Places.{at, some, each, total, within, slot, seek, changed, isFound};
+ghost use Rattle.parties.specs.Places.{at, each, total, within, slot, seek, changed, isFound};
 ghost use Rattle.parties.specs.Lines.{driven, scanOf};
-ghost use Rattle.party.specs.Driving.{isActive};
 use crate::Change;
 use crate::Found;
 use crate::Lines;
@@ -126,27 +125,12 @@ pub fn scan(ps: [Party; 15], count: u8, i: usize, eoi: bool) -> Scan
     Scan { lines, talker }
 }
 
-// Does an active party drive ATN?
-pub fn is_attended(ps: [Party; 15], count: u8) -> bool
-    ensures { λ r. ⌜ r ≡ some count isActive ps ⌝ }
-{
-    let mut atn = false;
-    let n = within_places(count);
-    let mut k: usize = 0;
-    while k < n {
-        let p = ps[k];
-        atn = or(atn, p.is_active());
-        k = k + 1;
-    }
-    atn
-}
-
 // A change of one party.
 fn change_of(c: Change, p: Party) -> Party
     ensures { λ r. ⌜ r ≡ changed c p ⌝ }
 {
     match c {
-        Change::Attend(atn) => p.attended(atn),
+        Change::Attend(atn) => p.attended(atn).settled(atn),
         Change::Clear => p.cleared(),
     }
 }

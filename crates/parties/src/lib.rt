@@ -28,7 +28,7 @@ pub struct Scan {
     pub talker: Found,
 }
 
-// What some calls do to every party before it settles: attention, or the first part of an interface clear.
+// What some calls do to every party: attention and then settling, or the first part of an interface clear.
 pub enum Change {
     Attend(bool),
     Clear,

@@ -8,8 +8,14 @@ enum-told c = search needs
 enum-known-self : tie.Need-enum-known-self
 enum-known-self c = search needs
 
-is-command-requires : tie.Need-is-command-requires
-is-command-requires c κs = search needs
+enum-told-2 : tie.Need-enum-told-2
+enum-told-2 c = search needs
+
+enum-told-3 : tie.Need-enum-told-3
+enum-told-3 c = search needs
+
+enum-told-4 : tie.Need-enum-told-4
+enum-told-4 c = search needs
 
 returns : tie.Need-returns
 returns c = search needs
@@ -17,10 +23,34 @@ returns c = search needs
 returns-2 : tie.Need-returns-2
 returns-2 c =
     simp (
-      c .is-command .ensures,
-      c .before .before .before .before .self .given .1,
+      c .before .before .enum-told2 .given .1,
+      c .before .before .before .before .before .self .given .1,
+    )
+
+returns-3 : tie.Need-returns-3
+returns-3 c =
+    simp (
+      c .enum-told3 .given .1,
+      c .before .before .before .self .given .1,
+    )
+
+returns-4 : tie.Need-returns-4
+returns-4 c =
+    simp (
+      c .enum-told4 .given .1,
+      c .before .before .before .self .given .1,
     )
 
 pub is-command-of-spec : {M : Type 1} → statement M
 is-command-of-spec =
-    tie.close (tie.spec enum-told enum-known-self is-command-requires returns returns-2)
+    tie.close
+    (tie.spec
+    enum-told
+    enum-known-self
+    enum-told-2
+    enum-told-3
+    enum-told-4
+    returns
+    returns-2
+    returns-3
+    returns-4)

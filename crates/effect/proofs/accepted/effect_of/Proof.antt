@@ -47,8 +47,14 @@ enum-known-c-5 c = search needs
 is-on-requires-3 : tie.Need-is-on-requires-3
 is-on-requires-3 c κs = search needs
 
-talking-requires : tie.Need-talking-requires
-talking-requires c κs = search needs
+with-flags-requires : tie.Need-with-flags-requires
+with-flags-requires c κs = search needs
+
+with-role-requires : tie.Need-with-role-requires
+with-role-requires c κs = search needs
+
+quiet-requires-2 : tie.Need-quiet-requires-2
+quiet-requires-2 c κs = search needs
 
 enum-told-2 : tie.Need-enum-told-2
 enum-told-2 c = search needs
@@ -68,6 +74,15 @@ enum-told-4 c = search needs
 cleared-requires : tie.Need-cleared-requires
 cleared-requires c κs = search needs
 
+change-control-requires : tie.Need-change-control-requires
+change-control-requires c κs = search needs
+
+quiet-requires-3 : tie.Need-quiet-requires-3
+quiet-requires-3 c κs = search needs
+
+then-requires : tie.Need-then-requires
+then-requires c κs = search needs
+
 enum-told-5 : tie.Need-enum-told-5
 enum-told-5 c = search needs
 
@@ -83,8 +98,8 @@ held-bytes-requires c κs = search needs
 with-held-requires-2 : tie.Need-with-held-requires-2
 with-held-requires-2 c κs = search needs
 
-quiet-requires-2 : tie.Need-quiet-requires-2
-quiet-requires-2 c κs = search needs
+quiet-requires-4 : tie.Need-quiet-requires-4
+quiet-requires-4 c κs = search needs
 
 enum-told-7 : tie.Need-enum-told-7
 enum-told-7 c = search needs
@@ -116,10 +131,8 @@ returns-2 c =
 
 returns-3 : tie.Need-returns-3
 returns-3 c =
-    simp (
-      c .taken-out .ensures,
-      c .before .enum-told .given .1,
-    )
+    simp (c .taken-out .ensures,
+    c .before .enum-told .given .1)
 
 returns-4 : tie.Need-returns-4
 returns-4 c =
@@ -139,56 +152,49 @@ returns-5 c =
 returns-6 : tie.Need-returns-6
 returns-6 c =
     simp (
-      c .talking .ensures,
-      c .before .is-on3 .ensures,
-      c .before .before .before .c5 .given .1,
+      c .quiet2 .ensures,
+      c .before .with-role .ensures,
+      c .before .before .with-flags .ensures,
+      c .before .before .before .is-on3 .ensures,
+      c .before .before .before .before .before .c5 .given .1,
     )
 
 returns-7 : tie.Need-returns-7
 returns-7 c =
-    simp (
-      c .in-control .ensures,
-      c .before .enum-told2 .given .1,
-    )
+    simp (c .in-control .ensures,
+    c .before .enum-told2 .given .1)
 
 returns-8 : tie.Need-returns-8
 returns-8 c =
-    simp (
-      c .in-control2 .ensures,
-      c .before .enum-told3 .given .1,
-    )
+    simp (c .in-control2 .ensures,
+    c .before .enum-told3 .given .1)
 
 returns-9 : tie.Need-returns-9
 returns-9 c =
-    simp (
-      c .cleared .ensures,
-      c .before .enum-told4 .given .1,
-    )
+    simp (c .then .ensures,
+    c .before .quiet3 .ensures,
+    c .before .before .change-control .ensures,
+    c .before .before .before .cleared .ensures,
+    c .before .before .before .before .enum-told4 .given .1)
 
 returns-10 : tie.Need-returns-10
 returns-10 c =
-    simp (
-      c .reset .ensures,
-      c .before .enum-told5 .given .1,
-    )
+    simp (c .reset .ensures,
+    c .before .enum-told5 .given .1)
 
 returns-11 : tie.Need-returns-11
 returns-11 c =
-    simp (
-      c .quiet2 .ensures,
-      c .before .with-held2 .ensures,
-      c .before .before .held-bytes .ensures .0,
-      c .before .before .before .enum-told6 .given .1,
-    )
+    simp (c .quiet4 .ensures,
+    c .before .with-held2 .ensures,
+    c .before .before .held-bytes .ensures .0,
+    c .before .before .before .enum-told6 .given .1)
 
 returns-12 : tie.Need-returns-12
 returns-12 c =
-    simp (
-      c .does .ensures,
-      c .before .say .ensures,
-      c .before .before .byte .ensures,
-      c .before .before .before .enum-told7 .given .1,
-    )
+    simp (c .does .ensures,
+    c .before .say .ensures,
+    c .before .before .byte .ensures,
+    c .before .before .before .enum-told7 .given .1)
 
 pub effect-of-spec : {M : Type 1} → statement M
 effect-of-spec =
@@ -209,19 +215,24 @@ effect-of-spec =
     listening-requires
     enum-known-c-5
     is-on-requires-3
-    talking-requires
+    with-flags-requires
+    with-role-requires
+    quiet-requires-2
     enum-told-2
     in-control-requires
     enum-told-3
     in-control-requires-2
     enum-told-4
     cleared-requires
+    change-control-requires
+    quiet-requires-3
+    then-requires
     enum-told-5
     reset-requires
     enum-told-6
     held-bytes-requires
     with-held-requires-2
-    quiet-requires-2
+    quiet-requires-4
     enum-told-7
     byte-requires
     say-requires

@@ -8,6 +8,9 @@ enum-known-c c = search needs
 attended-requires : tie.Need-attended-requires
 attended-requires c κs = search needs
 
+settled-requires : tie.Need-settled-requires
+settled-requires c κs = search needs
+
 enum-told : tie.Need-enum-told
 enum-told c = search needs
 
@@ -17,8 +20,9 @@ cleared-requires c κs = search needs
 returns : tie.Need-returns
 returns c =
     simp (
-      c .attended .ensures,
-      c .before .before .c .given .1,
+      c .settled .ensures,
+      c .before .attended .ensures,
+      c .before .before .before .c .given .1,
     )
 
 returns-2 : tie.Need-returns-2
@@ -30,4 +34,4 @@ returns-2 c =
 
 pub change-of-spec : {M : Type 1} → statement M
 change-of-spec =
-    tie.close (tie.spec enum-known-c attended-requires enum-told cleared-requires returns returns-2)
+    tie.close (tie.spec enum-known-c attended-requires settled-requires enum-told cleared-requires returns returns-2)
