@@ -66,15 +66,15 @@ fn addresses(first: u8) -> [u8; 15]
     ]
 }
 
-// More than fifteen parties, or a first address over 30, make no bus whatever else the record has.
+// More than fifteen parties, or a first address over 30, make no bus whatever else the record has: no more than a build of no addresses.
 fn build_from(system: Place, n: u8, first: u8) -> Answer
     ensures { λ r. ⌜ r ≡ buildFrom system n first ⌝ }
 {
     if 15 < n {
-        return Bus::EMPTY.refuse(Refusal::BadBuild);
+        return Bus::build(b"", system);
     }
     if 30 < first {
-        return Bus::EMPTY.refuse(Refusal::BadBuild);
+        return Bus::build(b"", system);
     }
     let all = addresses(first);
     let count = n as usize;
@@ -123,12 +123,13 @@ fn after(next: Next, at: usize, len: usize) -> usize
     }
 }
 
-// A line for each record, from the bus of no parties.
+// A line for each record, from the bus of no parties. A build makes it, since a bus written out as a constant is kept field by field.
 fn run_all(script: &[u8], out: &mut [u8]) -> usize
     requires { ⌜ 34 * ((length (now script) + 5) / 6) ≤ length (now out) ⌝ }
     ensures { λ r. ⌜ Wrote (now (out .entry)) 0 (textFrom noParties 1 (records (now (script .entry)))) (now (out .exit)) r ⌝ }
 {
-    let mut bus = Bus::EMPTY;
+    let none = Bus::build(b"", Place(0));
+    let mut bus = none.bus;
     let mut at = 0;
     let mut n = 1;
     let mut place = 0;

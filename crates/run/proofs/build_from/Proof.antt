@@ -11,23 +11,29 @@ use lib.Seq.{length-take-le}
 use Rattle.run.specs.Script.{buildFrom}
 use Rattle.run.proofs.Building.{take-up, length-up, too-many, too-high}
 
-refuse-requires : tie.Need-refuse-requires
-refuse-requires c κs = search needs
+slice-aggregate-build : tie.Need-slice-aggregate-build
+slice-aggregate-build c = search needs
+
+build-requires : tie.Need-build-requires
+build-requires c κs = search needs
 
 returns : tie.Need-returns
 unfolding buildFrom
 returns c =
-    let s = c .before .before in
-    c .refuse .ensures ∙ sym (too-many (s .args .n) (s .args .first) (s .args .system) (c .before .if1 .taken))
+    let s = c .before .before .before in
+    c .build .ensures ∙ sym (too-many (s .args .n) (s .args .first) (s .args .system) (c .before .before .if1 .taken))
 
-refuse-requires-2 : tie.Need-refuse-requires-2
-refuse-requires-2 c κs = search needs
+slice-aggregate-build-2 : tie.Need-slice-aggregate-build-2
+slice-aggregate-build-2 c = search needs
+
+build-requires-2 : tie.Need-build-requires-2
+build-requires-2 c κs = search needs
 
 returns-2 : tie.Need-returns-2
 unfolding buildFrom
 returns-2 c =
-    let s = c .before .before .before in
-    c .refuse2 .ensures ∙ sym (too-high (s .args .n) (s .args .first) (s .args .system) (c .before .if2 .taken))
+    let s = c .before .before .before .before in
+    c .build2 .ensures ∙ sym (too-high (s .args .n) (s .args .first) (s .args .system) (c .before .before .if2 .taken))
 
 addresses-requires : tie.Need-addresses-requires
 addresses-requires c κs = search needs
@@ -35,30 +41,32 @@ addresses-requires c κs = search needs
 array-share-prefix-all : tie.Need-array-share-prefix-all
 array-share-prefix-all c = search needs
 
-slice-aggregate-build : tie.Need-slice-aggregate-build
-slice-aggregate-build c =
+slice-aggregate-build-3 : tie.Need-slice-aggregate-build-3
+slice-aggregate-build-3 c =
     sym (length-take-le _ _ (omega (arith, ap length (c .before .addresses .ensures) ∙ length-up 15 _)))
 
-build-requires : tie.Need-build-requires
-build-requires c κs = search needs
+build-requires-3 : tie.Need-build-requires-3
+build-requires-3 c κs = search needs
 
 returns-3 : tie.Need-returns-3
 unfolding buildFrom
 returns-3 c =
     let a = c .before .before in
     let s = a .before .before .before in
-    c .build .ensures ∙ ap (λ (l : List ℕ). build l (s .args .system)) (ap (take (s .args .n)) (a .addresses .ensures) ∙ take-up (s .args .n) 15 (s .args .first) (omega arith))
+    c .build3 .ensures ∙ ap (λ (l : List ℕ). build l (s .args .system)) (ap (take (s .args .n)) (a .addresses .ensures) ∙ take-up (s .args .n) 15 (s .args .first) (omega arith))
 
 pub build-from-spec : {M : Type 1} → statement M
 build-from-spec =
     tie.close
     (tie.spec
-    refuse-requires
+    slice-aggregate-build
+    build-requires
     returns
-    refuse-requires-2
+    slice-aggregate-build-2
+    build-requires-2
     returns-2
     addresses-requires
     array-share-prefix-all
-    slice-aggregate-build
-    build-requires
+    slice-aggregate-build-3
+    build-requires-3
     returns-3)

@@ -6,7 +6,7 @@ use native.Mathlib.Omega.{arith}
 use lib.ListN.{length}
 use Rattle.reader.specs.declared.Next.{Next}
 use Rattle.text.proofs.Laws.{same-size}
-use Rattle.bus.specs.Record.{noParties}
+use Rattle.bus.specs.declared.Answer.{Answer}
 use Rattle.run.specs.Script.{answerTo, afterOf}
 use Rattle.run.proofs.Records.{next, turn}
 use Rattle.run.proofs.Going.{Going, start, fits, again, ends}
@@ -18,8 +18,16 @@ Inv-loop script out₀ bus₀ at₀ n₀ place₀ out bus at n place = Going scr
 abbrev μ-loop : tie.MeasureT-loop
 μ-loop script out₀ bus₀ at₀ n₀ place₀ out bus at n place = length script - at
 
+slice-aggregate-build : tie.Need-slice-aggregate-build Inv-loop μ-loop
+slice-aggregate-build c = search needs
+
+build-requires : tie.Need-build-requires Inv-loop μ-loop
+build-requires c κs = search needs
+
 loop-holds : tie.Need-loop-holds Inv-loop μ-loop
-loop-holds c = start (c .before .before .args .script .now) (c .before .before .args .out .now) noParties refl (c .before .before .pre)
+loop-holds c =
+    let b = c .before .before .before .before .before in
+    start (b .args .script .now) (b .args .out .now) (c .before .build .result .bus) (ap (λ (a : Answer). a .bus) (c .before .build .ensures)) (b .pre)
 
 record-requires : tie.Need-record-requires Inv-loop μ-loop
 record-requires c κs = search needs
@@ -40,7 +48,7 @@ loop-less : tie.Need-loop-less Inv-loop μ-loop
 loop-less c =
     let a = c .before .before .before .before .before .before in
     let l = a .before .before .before in
-    let s = l .before .before .before .args .script .now in
+    let s = l .before .before .before .before .before .before .args .script .now in
     let e : c .after .result ≡ next s (l .loop .at) = c .after .ensures ∙ ap (λ (r : Next). afterOf r (l .loop .at) (length s)) (a .before .«record» .ensures) in
     let t = turn s (l .loop .at) (a .before .before .loop-test .taken) in
     omega (arith, t .further, t .within, e)
@@ -50,7 +58,7 @@ loop-again c =
     let p = c .before .before .before .before in
     let a = p .before .before in
     let l = a .before .before .before in
-    let s = l .before .before .before .args .script .now in
+    let s = l .before .before .before .before .before .before .args .script .now in
     again (l .loop .inv) (a .answer .result) (a .before .before .loop-test .taken)
     (a .answer .ensures ∙ ap (answerTo (l .loop .bus)) (a .before .«record» .ensures))
     (p .put-line .ensures .written (fits (l .loop .inv) (a .before .before .loop-test .taken))) refl
@@ -68,6 +76,8 @@ run-all-spec =
     (tie.spec
     Inv-loop
     μ-loop
+    slice-aggregate-build
+    build-requires
     loop-holds
     record-requires
     answer-requires

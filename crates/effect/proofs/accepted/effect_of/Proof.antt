@@ -131,8 +131,10 @@ returns-2 c =
 
 returns-3 : tie.Need-returns-3
 returns-3 c =
-    simp (c .taken-out .ensures,
-    c .before .enum-told .given .1)
+    simp (
+      c .taken-out .ensures,
+      c .before .enum-told .given .1,
+    )
 
 returns-4 : tie.Need-returns-4
 returns-4 c =
@@ -161,40 +163,52 @@ returns-6 c =
 
 returns-7 : tie.Need-returns-7
 returns-7 c =
-    simp (c .in-control .ensures,
-    c .before .enum-told2 .given .1)
+    simp (
+      c .in-control .ensures,
+      c .before .enum-told2 .given .1,
+    )
 
 returns-8 : tie.Need-returns-8
 returns-8 c =
-    simp (c .in-control2 .ensures,
-    c .before .enum-told3 .given .1)
+    simp (
+      c .in-control2 .ensures,
+      c .before .enum-told3 .given .1,
+    )
 
 returns-9 : tie.Need-returns-9
 returns-9 c =
-    simp (c .then .ensures,
-    c .before .quiet3 .ensures,
-    c .before .before .change-control .ensures,
-    c .before .before .before .cleared .ensures,
-    c .before .before .before .before .enum-told4 .given .1)
+    simp (
+      c .then .ensures,
+      c .before .quiet3 .ensures,
+      c .before .before .change-control .ensures,
+      c .before .before .before .cleared .ensures,
+      c .before .before .before .before .enum-told4 .given .1,
+    )
 
 returns-10 : tie.Need-returns-10
 returns-10 c =
-    simp (c .reset .ensures,
-    c .before .enum-told5 .given .1)
+    simp (
+      c .reset .ensures,
+      c .before .enum-told5 .given .1,
+    )
 
 returns-11 : tie.Need-returns-11
 returns-11 c =
-    simp (c .quiet4 .ensures,
-    c .before .with-held2 .ensures,
-    c .before .before .held-bytes .ensures .0,
-    c .before .before .before .enum-told6 .given .1)
+    simp (
+      c .quiet4 .ensures,
+      c .before .with-held2 .ensures,
+      c .before .before .held-bytes .ensures .0,
+      c .before .before .before .enum-told6 .given .1,
+    )
 
 returns-12 : tie.Need-returns-12
 returns-12 c =
-    simp (c .does .ensures,
-    c .before .say .ensures,
-    c .before .before .byte .ensures,
-    c .before .before .before .enum-told7 .given .1)
+    simp (
+      c .does .ensures,
+      c .before .say .ensures,
+      c .before .before .byte .ensures,
+      c .before .before .before .enum-told7 .given .1,
+    )
 
 pub effect-of-spec : {M : Type 1} → statement M
 effect-of-spec =

@@ -104,9 +104,11 @@ returns-2 c =
 
 returns-3 : tie.Need-returns-3
 returns-3 c =
-    simp (c .when3 .ensures,
-    c .before .is-full2 .ensures,
-    c .before .before .enum-told2 .given .1)
+    simp (
+      c .when3 .ensures,
+      c .before .is-full2 .ensures,
+      c .before .before .enum-told2 .given .1,
+    )
 
 returns-4 : tie.Need-returns-4
 returns-4 c =
@@ -132,25 +134,33 @@ returns-6 c =
 
 returns-7 : tie.Need-returns-7
 returns-7 c =
-    simp (c .when6 .ensures,
-    c .before .in-standby .ensures,
-    c .before .before .enum-told4 .given .1)
+    simp (
+      c .when6 .ensures,
+      c .before .in-standby .ensures,
+      c .before .before .enum-told4 .given .1,
+    )
 
 returns-8 : tie.Need-returns-8
 returns-8 c =
-    simp (c .standby-refusal .ensures,
-    c .before .is-active .ensures,
-    c .before .before .enum-told5 .given .1)
+    simp (
+      c .standby-refusal .ensures,
+      c .before .is-active .ensures,
+      c .before .before .enum-told5 .given .1,
+    )
 
 returns-9 : tie.Need-returns-9
 returns-9 c =
-    simp (c .when7 .ensures,
-    c .before .enum-told6 .given .1)
+    simp (
+      c .when7 .ensures,
+      c .before .enum-told6 .given .1,
+    )
 
 returns-10 : tie.Need-returns-10
 returns-10 c =
-    simp (c .when8 .ensures,
-    c .before .enum-told7 .given .1)
+    simp (
+      c .when8 .ensures,
+      c .before .enum-told7 .given .1,
+    )
 
 returns-11 : tie.Need-returns-11
 returns-11 c =
