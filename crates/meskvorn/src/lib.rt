@@ -3,6 +3,9 @@ ghost use mathlib.Core.Path.{_≡_};
 ghost use Rattle.meskvorn.specs.Host.{countOf, RanTo};
 use run::Ran;
 
+pub mod calls;
+pub mod packing;
+
 // The number of bytes written; the largest number where there was no room.
 fn count_of(r: Ran) -> usize
     ensures { λ n. ⌜ n ≡ countOf r ⌝ }

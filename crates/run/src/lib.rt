@@ -21,7 +21,7 @@ pub enum Order {
     Unknown,
 }
 
-fn order_of(op: u8, party: u8, value: u8, extra: u8) -> Order
+pub fn order_of(op: u8, party: u8, value: u8, extra: u8) -> Order
     ensures { λ r. ⌜ r ≡ orderOf op party value extra ⌝ }
 {
     match op {
@@ -81,7 +81,7 @@ fn build_from(system: Place, n: u8, first: u8) -> Answer
     Bus::build(&all[..count], system)
 }
 
-fn obey(b: Bus, o: Order) -> Answer
+pub fn obey(b: Bus, o: Order) -> Answer
     ensures { λ r. ⌜ r ≡ obey b o ⌝ }
 {
     match o {

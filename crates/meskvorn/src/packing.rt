@@ -1,0 +1,76 @@
+// An answer as a number, which every host language takes.
+ghost use mathlib.Core.Path.{_≡_};
+ghost use Rattle.effect.specs.Words.{refusalNumber};
+ghost use Rattle.meskvorn.specs.Host.{eventNumber, bytes, packed};
+use bus::Answer;
+use effect::Refusal;
+use party::Event;
+use party::clearing::one;
+
+fn refusal_number(r: Refusal) -> u8
+    ensures { λ n. ⌜ n ≡ refusalNumber r ⌝ }
+{
+    match r {
+        Refusal::Accepted => 0,
+        Refusal::NoParty => 1,
+        Refusal::BadBuild => 2,
+        Refusal::BadValue => 3,
+        Refusal::Role => 4,
+        Refusal::Attention => 5,
+        Refusal::Talker => 6,
+        Refusal::Standing => 7,
+        Refusal::Full => 8,
+        Refusal::Empty => 9,
+        Refusal::Record => 10,
+    }
+}
+
+fn event_number(e: Event) -> u8
+    ensures { λ n. ⌜ n ≡ eventNumber e ⌝ }
+{
+    match e {
+        Event::None => 0,
+        Event::Moved => 1,
+        Event::Cmd => 2,
+        Event::Data => 3,
+        Event::Stat => 4,
+        Event::Took => 5,
+        Event::Heard => 6,
+        Event::Clear => 7,
+        Event::Trigger => 8,
+        Event::Ended => 9,
+        Event::Passed => 10,
+        Event::Noacc => 11,
+        Event::Read => 12,
+        Event::Lines => 13,
+    }
+}
+
+fn wide(x: u8) -> u64
+    ensures { λ r. ⌜ r ≡ x ⌝ }
+{
+    x as u64
+}
+
+// Six bytes as one number, the first the lowest.
+fn bytes(a: u8, b: u8, c: u8, d: u8, e: u8, f: u8) -> u64
+    ensures { λ r. ⌜ r ≡ bytes a b c d e f ⌝ }
+{
+    wide(a) + 256 * (wide(b) + 256 * (wide(c) + 256 * (wide(d) + 256 * (wide(e) + 256 * wide(f)))))
+}
+
+// All of an answer but the bus.
+pub fn packed(a: Answer) -> u64
+    ensures { λ r. ⌜ r ≡ packed a ⌝ }
+{
+    let refusal = a.refusal;
+    let event = a.event;
+    bytes(
+        refusal_number(refusal),
+        event_number(event),
+        a.byte,
+        one(a.end),
+        a.dropped,
+        a.broken,
+    )
+}
