@@ -1,0 +1,225 @@
+/* The GPIB bus of document 01 for C and C++ programs. Link libmeskvorn.a, which `rt staticlib meskvorn` writes to target/staticlib.
+ *
+ * meskvorn_call, meskvorn_build and meskvorn_run are the proved functions, for pointers that are valid for their lengths and do not overlap.
+ * The inline functions below them take the answer apart and take NULL as well; they are tested. */
+#ifndef MESKVORN_H
+#define MESKVORN_H
+
+#include <stddef.h>
+#include <stdint.h>
+
+#ifdef __cplusplus
+extern "C" {
+#endif
+
+/* A bus, in memory of the program's own, which may be copied and moved. Build it before the first call: any other content is read as some bus too. */
+typedef struct meskvorn_bus {
+    uint8_t rows[16][16];
+} meskvorn_bus;
+
+/* Document 01's table of refusals. */
+typedef enum meskvorn_refusal {
+    MESKVORN_REFUSAL_ACCEPTED = 0,
+    MESKVORN_REFUSAL_NOPARTY = 1,
+    MESKVORN_REFUSAL_BADBUILD = 2,
+    MESKVORN_REFUSAL_BADVALUE = 3,
+    MESKVORN_REFUSAL_ROLE = 4,
+    MESKVORN_REFUSAL_ATTENTION = 5,
+    MESKVORN_REFUSAL_TALKER = 6,
+    MESKVORN_REFUSAL_STANDING = 7,
+    MESKVORN_REFUSAL_FULL = 8,
+    MESKVORN_REFUSAL_EMPTY = 9,
+    MESKVORN_REFUSAL_RECORD = 10
+} meskvorn_refusal;
+
+/* Document 01's events, in its order. */
+typedef enum meskvorn_event {
+    MESKVORN_EVENT_NONE = 0,
+    MESKVORN_EVENT_MOVED = 1,
+    MESKVORN_EVENT_CMD = 2,
+    MESKVORN_EVENT_DATA = 3,
+    MESKVORN_EVENT_STAT = 4,
+    MESKVORN_EVENT_TOOK = 5,
+    MESKVORN_EVENT_HEARD = 6,
+    MESKVORN_EVENT_CLEAR = 7,
+    MESKVORN_EVENT_TRIGGER = 8,
+    MESKVORN_EVENT_ENDED = 9,
+    MESKVORN_EVENT_PASSED = 10,
+    MESKVORN_EVENT_NOACC = 11,
+    MESKVORN_EVENT_READ = 12,
+    MESKVORN_EVENT_LINES = 13
+} meskvorn_event;
+
+/* The operations of meskvorn_call, by their numbers in a script. */
+typedef enum meskvorn_operation {
+    MESKVORN_OPERATION_STEP = 1,
+    MESKVORN_OPERATION_WRITE = 2,
+    MESKVORN_OPERATION_READ = 3,
+    MESKVORN_OPERATION_POLL_REGISTER = 4,
+    MESKVORN_OPERATION_LISTEN_ONLY = 5,
+    MESKVORN_OPERATION_TALK_ONLY = 6,
+    MESKVORN_OPERATION_TAKE_CONTROL = 7,
+    MESKVORN_OPERATION_GO_TO_STANDBY = 8,
+    MESKVORN_OPERATION_INTERFACE_CLEAR = 9,
+    MESKVORN_OPERATION_RESET = 10,
+    MESKVORN_OPERATION_DROP = 11,
+    MESKVORN_OPERATION_LINES = 12
+} meskvorn_operation;
+
+/* The bits of the byte that comes with the event lines. */
+enum {
+    MESKVORN_LINE_ATN = 128,
+    MESKVORN_LINE_DAV = 64,
+    MESKVORN_LINE_NDAC = 32,
+    MESKVORN_LINE_NRFD = 16,
+    MESKVORN_LINE_EOI = 8,
+    MESKVORN_LINE_SRQ = 4
+};
+
+/* What meskvorn_run gives where the text had no room. */
+#define MESKVORN_NO_ROOM ((size_t)-1)
+
+/* Of an answer: end and broken are 0 or 1, dropped is 0 to 2. A refusal has event none and 0 in all that follows. */
+typedef struct meskvorn_answer {
+    meskvorn_refusal refusal;
+    meskvorn_event event;
+    uint8_t byte;
+    uint8_t end;
+    uint8_t dropped;
+    uint8_t broken;
+} meskvorn_answer;
+
+/* The proved functions. No pointer may be NULL. The first two take the rows of a bus and give the answer as a number: from the low byte up refusal,
+ * event, byte, END, dropped, broken. An operation that is none of the twelve is refused with 3. Whatever the rows held, a build leaves the bus that it
+ * asks for, or the bus of no parties where it is refused. */
+uint64_t meskvorn_call(uint8_t (*rows)[16], uint8_t operation, uint8_t party, uint8_t value, uint8_t extra);
+uint64_t meskvorn_build(uint8_t (*rows)[16], const uint8_t *addresses, size_t count, uint8_t system);
+
+/* Runs a script and writes its text at the start of out, if out has 34 bytes for each record and part of one. Gives the number of bytes written. */
+size_t meskvorn_run(const uint8_t *script, size_t length, uint8_t *out, size_t room);
+
+static inline meskvorn_answer meskvorn_answer_of(uint64_t packed)
+{
+    meskvorn_answer answer;
+    answer.refusal = (meskvorn_refusal)(packed & 255);
+    answer.event = (meskvorn_event)(packed >> 8 & 255);
+    answer.byte = (uint8_t)(packed >> 16 & 255);
+    answer.end = (uint8_t)(packed >> 24 & 255);
+    answer.dropped = (uint8_t)(packed >> 32 & 255);
+    answer.broken = (uint8_t)(packed >> 40 & 255);
+    return answer;
+}
+
+/* An event as busrun prints it. */
+static inline const char *meskvorn_event_word(meskvorn_event event)
+{
+    static const char *const words[] = {"none", "moved", "cmd", "data", "stat", "took", "heard",
+                                        "clear", "trigger", "ended", "passed", "noacc", "read", "lines"};
+    return (size_t)event < sizeof words / sizeof words[0] ? words[event] : "";
+}
+
+/* From here on a NULL bus, and NULL for a list that is not empty, is answered with MESKVORN_REFUSAL_RECORD, and nothing is written. */
+
+/* The party with number i gets addresses[i]. */
+static inline meskvorn_answer meskvorn_bus_build(meskvorn_bus *bus, const uint8_t *addresses, size_t count, uint8_t system)
+{
+    static const uint8_t none = 0;
+    if (bus == NULL || (addresses == NULL && count != 0)) {
+        return meskvorn_answer_of(MESKVORN_REFUSAL_RECORD);
+    }
+    return meskvorn_answer_of(meskvorn_build(bus->rows, addresses == NULL ? &none : addresses, count, system));
+}
+
+/* An operation by its number. */
+static inline meskvorn_answer meskvorn_bus_call(meskvorn_bus *bus, uint8_t operation, uint8_t party, uint8_t value, uint8_t extra)
+{
+    if (bus == NULL) {
+        return meskvorn_answer_of(MESKVORN_REFUSAL_RECORD);
+    }
+    return meskvorn_answer_of(meskvorn_call(bus->rows, operation, party, value, extra));
+}
+
+/* The party has its turn. */
+static inline meskvorn_answer meskvorn_bus_step(meskvorn_bus *bus, uint8_t party)
+{
+    return meskvorn_bus_call(bus, MESKVORN_OPERATION_STEP, party, 0, 0);
+}
+
+/* A byte for the party to send, with its END, 0 or 1. */
+static inline meskvorn_answer meskvorn_bus_write(meskvorn_bus *bus, uint8_t party, uint8_t byte, uint8_t end)
+{
+    return meskvorn_bus_call(bus, MESKVORN_OPERATION_WRITE, party, byte, end);
+}
+
+/* The byte that the party took. */
+static inline meskvorn_answer meskvorn_bus_read(meskvorn_bus *bus, uint8_t party)
+{
+    return meskvorn_bus_call(bus, MESKVORN_OPERATION_READ, party, 0, 0);
+}
+
+/* Bit 64 of the register asks for service. */
+static inline meskvorn_answer meskvorn_bus_poll_register(meskvorn_bus *bus, uint8_t party, uint8_t value)
+{
+    return meskvorn_bus_call(bus, MESKVORN_OPERATION_POLL_REGISTER, party, value, 0);
+}
+
+/* on is 0 or 1. */
+static inline meskvorn_answer meskvorn_bus_listen_only(meskvorn_bus *bus, uint8_t party, uint8_t on)
+{
+    return meskvorn_bus_call(bus, MESKVORN_OPERATION_LISTEN_ONLY, party, on, 0);
+}
+
+/* on is 0 or 1. */
+static inline meskvorn_answer meskvorn_bus_talk_only(meskvorn_bus *bus, uint8_t party, uint8_t on)
+{
+    return meskvorn_bus_call(bus, MESKVORN_OPERATION_TALK_ONLY, party, on, 0);
+}
+
+static inline meskvorn_answer meskvorn_bus_take_control(meskvorn_bus *bus, uint8_t party)
+{
+    return meskvorn_bus_call(bus, MESKVORN_OPERATION_TAKE_CONTROL, party, 0, 0);
+}
+
+static inline meskvorn_answer meskvorn_bus_go_to_standby(meskvorn_bus *bus, uint8_t party)
+{
+    return meskvorn_bus_call(bus, MESKVORN_OPERATION_GO_TO_STANDBY, party, 0, 0);
+}
+
+/* For the system party alone. */
+static inline meskvorn_answer meskvorn_bus_interface_clear(meskvorn_bus *bus, uint8_t party)
+{
+    return meskvorn_bus_call(bus, MESKVORN_OPERATION_INTERFACE_CLEAR, party, 0, 0);
+}
+
+static inline meskvorn_answer meskvorn_bus_reset(meskvorn_bus *bus, uint8_t party)
+{
+    return meskvorn_bus_call(bus, MESKVORN_OPERATION_RESET, party, 0, 0);
+}
+
+/* The byte that the party holds goes. */
+static inline meskvorn_answer meskvorn_bus_drop(meskvorn_bus *bus, uint8_t party)
+{
+    return meskvorn_bus_call(bus, MESKVORN_OPERATION_DROP, party, 0, 0);
+}
+
+static inline meskvorn_answer meskvorn_bus_lines(meskvorn_bus *bus)
+{
+    return meskvorn_bus_call(bus, MESKVORN_OPERATION_LINES, 0, 0, 0);
+}
+
+/* meskvorn_run, where NULL with a length other than 0 is answered with MESKVORN_NO_ROOM. */
+static inline size_t meskvorn_script_run(const uint8_t *script, size_t length, uint8_t *out, size_t room)
+{
+    static const uint8_t none = 0;
+    uint8_t nowhere = 0;
+    if ((script == NULL && length != 0) || (out == NULL && room != 0)) {
+        return MESKVORN_NO_ROOM;
+    }
+    return meskvorn_run(script == NULL ? &none : script, length, out == NULL ? &nowhere : out, room);
+}
+
+#ifdef __cplusplus
+}
+#endif
+
+#endif

@@ -1,0 +1,399 @@
+/* The archive through meskvorn.h: document 01's examples P1 to P12 call by call, every operation and refusal, NULL, and buffers with no room.
+ * What is expected is worked out from document 01, and written as busrun prints it: refusal, event, byte, END, dropped, broken. */
+#include <stdio.h>
+#include <stdlib.h>
+#include <string.h>
+
+#include "meskvorn.h"
+
+#define NONE "0 none -- 0 0 0"
+#define MOVED "0 moved -- 0 0 0"
+#define REFUSED(number) #number " none -- 0 0 0"
+
+enum { GUARD = 64, FILL = 0xa5 };
+
+/* The bus under test, with bytes on both sides that no call may touch. */
+static struct {
+    uint8_t before[GUARD];
+    meskvorn_bus bus;
+    uint8_t after[GUARD];
+} memory;
+
+static meskvorn_bus *const bus = &memory.bus;
+static meskvorn_bus last;
+static int checks;
+static int failures;
+
+static const uint8_t addresses[16] = {5, 6, 7, 8, 9, 10, 11, 12, 13, 14, 15, 16, 17, 18, 19, 20};
+
+static void check_at(int line, int holds, const char *what)
+{
+    checks++;
+    if (!holds) {
+        failures++;
+        printf("host/test.c:%d: %s\n", line, what);
+    }
+}
+
+#define CHECK(condition) check_at(__LINE__, (condition), #condition)
+
+static int filled(const uint8_t *bytes, size_t count)
+{
+    size_t at;
+    for (at = 0; at < count; at++) {
+        if (bytes[at] != FILL) {
+            return 0;
+        }
+    }
+    return 1;
+}
+
+/* An event without a byte has the byte 0. */
+static void print_answer(char text[64], meskvorn_answer answer)
+{
+    char byte[3] = "--";
+    if (answer.event > MESKVORN_EVENT_MOVED || answer.byte != 0) {
+        snprintf(byte, sizeof byte, "%02x", answer.byte);
+    }
+    snprintf(text, 64, "%d %s %s %d %d %d", (int)answer.refusal, meskvorn_event_word(answer.event), byte, answer.end, answer.dropped, answer.broken);
+}
+
+/* Also: nothing beside the bus was touched, and the bus itself not by a refusal, except that of a build. */
+static void expect_at(int line, const char *wanted, meskvorn_answer answer)
+{
+    char text[64];
+    print_answer(text, answer);
+    check_at(line, strcmp(text, wanted) == 0, text);
+    check_at(line, filled(memory.before, GUARD) && filled(memory.after, GUARD), "the bus keeps to its memory");
+    if (answer.refusal != MESKVORN_REFUSAL_ACCEPTED && answer.refusal != MESKVORN_REFUSAL_BADBUILD) {
+        check_at(line, memcmp(bus, &last, sizeof last) == 0, "a refused call changes nothing");
+    }
+    last = *bus;
+}
+
+#define EXPECT(wanted, call) expect_at(__LINE__, (wanted), (call))
+
+/* Parties at addresses 5, 6, ..; party 0 is the system party. */
+static void build(size_t parties)
+{
+    EXPECT(NONE, meskvorn_bus_build(bus, addresses, parties, 0));
+}
+
+/* Party 0 talks, party 1 listens; the byte 41 with END stands. */
+static void stand(size_t parties)
+{
+    build(parties);
+    EXPECT(NONE, meskvorn_bus_talk_only(bus, 0, 1));
+    EXPECT(NONE, meskvorn_bus_listen_only(bus, 1, 1));
+    EXPECT(NONE, meskvorn_bus_write(bus, 0, 0x41, 1));
+    EXPECT(MOVED, meskvorn_bus_step(bus, 0));
+    EXPECT(MOVED, meskvorn_bus_step(bus, 1));
+    EXPECT("0 data 41 1 0 0", meskvorn_bus_step(bus, 0));
+}
+
+static void p1_and_p2(void)
+{
+    stand(2);
+    EXPECT("0 took 41 1 0 0", meskvorn_bus_step(bus, 1));
+    EXPECT("0 lines 78 0 0 0", meskvorn_bus_lines(bus));
+    EXPECT(NONE, meskvorn_bus_step(bus, 0));
+    EXPECT(MOVED, meskvorn_bus_step(bus, 1));
+    EXPECT("0 ended 41 1 0 0", meskvorn_bus_step(bus, 0));
+    EXPECT("0 read 41 1 0 0", meskvorn_bus_read(bus, 1));
+}
+
+static void p3_joining_under_dav(void)
+{
+    stand(3);
+    EXPECT(NONE, meskvorn_bus_listen_only(bus, 2, 1));
+    EXPECT(NONE, meskvorn_bus_step(bus, 2));
+    EXPECT("0 took 41 1 0 0", meskvorn_bus_step(bus, 1));
+    EXPECT(MOVED, meskvorn_bus_step(bus, 1));
+    EXPECT("0 ended 41 1 0 0", meskvorn_bus_step(bus, 0));
+    EXPECT(REFUSED(9), meskvorn_bus_read(bus, 2));
+    EXPECT("0 read 41 1 0 0", meskvorn_bus_read(bus, 1));
+    EXPECT(NONE, meskvorn_bus_write(bus, 0, 0x42, 0));
+    EXPECT(MOVED, meskvorn_bus_step(bus, 0));
+    EXPECT(MOVED, meskvorn_bus_step(bus, 1));
+    EXPECT(MOVED, meskvorn_bus_step(bus, 1));
+    EXPECT(MOVED, meskvorn_bus_step(bus, 2));
+    EXPECT(MOVED, meskvorn_bus_step(bus, 2));
+    EXPECT("0 data 42 0 0 0", meskvorn_bus_step(bus, 0));
+    EXPECT("0 took 42 0 0 0", meskvorn_bus_step(bus, 2));
+}
+
+static void p4_off_and_on_again(void)
+{
+    stand(2);
+    EXPECT("0 took 41 1 0 0", meskvorn_bus_step(bus, 1));
+    EXPECT(NONE, meskvorn_bus_listen_only(bus, 1, 0));
+    EXPECT(NONE, meskvorn_bus_listen_only(bus, 1, 1));
+    EXPECT(NONE, meskvorn_bus_step(bus, 1));
+    EXPECT("0 ended 41 1 0 0", meskvorn_bus_step(bus, 0));
+    EXPECT("0 read 41 1 0 0", meskvorn_bus_read(bus, 1));
+    EXPECT(REFUSED(9), meskvorn_bus_read(bus, 1));
+}
+
+/* Party 1 talks, 2 and 3 listen; the byte 41 stands. Party 0 is in standby. */
+static void stand_beside_a_controller(void)
+{
+    build(4);
+    EXPECT(NONE, meskvorn_bus_interface_clear(bus, 0));
+    EXPECT(NONE, meskvorn_bus_go_to_standby(bus, 0));
+    EXPECT(NONE, meskvorn_bus_talk_only(bus, 1, 1));
+    EXPECT(NONE, meskvorn_bus_listen_only(bus, 2, 1));
+    EXPECT(NONE, meskvorn_bus_listen_only(bus, 3, 1));
+    EXPECT(NONE, meskvorn_bus_write(bus, 1, 0x41, 0));
+    EXPECT(MOVED, meskvorn_bus_step(bus, 1));
+    EXPECT(MOVED, meskvorn_bus_step(bus, 2));
+    EXPECT(NONE, meskvorn_bus_step(bus, 1));
+    EXPECT(MOVED, meskvorn_bus_step(bus, 3));
+    EXPECT("0 data 41 0 0 0", meskvorn_bus_step(bus, 1));
+    EXPECT("0 took 41 0 0 0", meskvorn_bus_step(bus, 2));
+}
+
+static void p5_one_slow_listener(void)
+{
+    stand_beside_a_controller();
+    EXPECT(MOVED, meskvorn_bus_step(bus, 2));
+    EXPECT(NONE, meskvorn_bus_step(bus, 1));
+    EXPECT("0 took 41 0 0 0", meskvorn_bus_step(bus, 3));
+    EXPECT(NONE, meskvorn_bus_step(bus, 1));
+    EXPECT(MOVED, meskvorn_bus_step(bus, 3));
+    EXPECT("0 ended 41 0 0 0", meskvorn_bus_step(bus, 1));
+}
+
+static void p6_control_taken_after_one_took(void)
+{
+    stand_beside_a_controller();
+    EXPECT("0 none -- 0 0 1", meskvorn_bus_take_control(bus, 0));
+    EXPECT("0 lines b0 0 0 0", meskvorn_bus_lines(bus));
+    EXPECT("0 read 41 0 0 0", meskvorn_bus_read(bus, 2));
+    EXPECT(REFUSED(9), meskvorn_bus_read(bus, 3));
+    EXPECT(NONE, meskvorn_bus_drop(bus, 1));
+}
+
+static void p7_no_listener(void)
+{
+    build(2);
+    EXPECT(NONE, meskvorn_bus_talk_only(bus, 0, 1));
+    EXPECT(NONE, meskvorn_bus_write(bus, 0, 0x41, 1));
+    EXPECT(MOVED, meskvorn_bus_step(bus, 0));
+    EXPECT("0 noacc 41 1 1 0", meskvorn_bus_step(bus, 0));
+    EXPECT(NONE, meskvorn_bus_write(bus, 0, 0x42, 0));
+    EXPECT("0 none -- 0 1 0", meskvorn_bus_drop(bus, 0));
+    EXPECT(NONE, meskvorn_bus_drop(bus, 0));
+}
+
+/* A refused build leaves the bus of no parties. */
+static void p8_p9_and_builds(void)
+{
+    static const uint8_t far[2] = {30, 0}, too_far[2] = {0, 31}, equal[3] = {7, 2, 7};
+    EXPECT(NONE, meskvorn_bus_build(bus, far, 2, 1));
+    EXPECT(REFUSED(4), meskvorn_bus_interface_clear(bus, 0));
+    EXPECT(NONE, meskvorn_bus_interface_clear(bus, 1));
+    EXPECT(REFUSED(2), meskvorn_bus_build(bus, too_far, 2, 0));
+    EXPECT(REFUSED(1), meskvorn_bus_step(bus, 0));
+    EXPECT("0 lines 00 0 0 0", meskvorn_bus_lines(bus));
+    EXPECT(NONE, meskvorn_bus_build(bus, addresses, 15, 14));
+    EXPECT(NONE, meskvorn_bus_step(bus, 14));
+    EXPECT(REFUSED(1), meskvorn_bus_step(bus, 15));
+    EXPECT(REFUSED(2), meskvorn_bus_build(bus, addresses, 16, 0));
+    EXPECT(REFUSED(1), meskvorn_bus_step(bus, 0));
+    EXPECT(REFUSED(2), meskvorn_bus_build(bus, equal, 3, 0));
+    EXPECT(REFUSED(2), meskvorn_bus_build(bus, addresses, 2, 2));
+    EXPECT(REFUSED(2), meskvorn_bus_build(bus, addresses, 0, 0));
+    EXPECT(REFUSED(2), meskvorn_bus_build(bus, NULL, 0, 0));
+}
+
+/* The active party 0 sends a command to its end; party 1, which has to be in ANRS, hears it. */
+static void command(uint8_t byte, const char *put, const char *heard, const char *ended)
+{
+    EXPECT(NONE, meskvorn_bus_write(bus, 0, byte, 0));
+    EXPECT(MOVED, meskvorn_bus_step(bus, 0));
+    EXPECT(MOVED, meskvorn_bus_step(bus, 1));
+    EXPECT(put, meskvorn_bus_step(bus, 0));
+    EXPECT(REFUSED(7), meskvorn_bus_go_to_standby(bus, 0));
+    EXPECT(REFUSED(7), meskvorn_bus_reset(bus, 0));
+    EXPECT(heard, meskvorn_bus_step(bus, 1));
+    EXPECT(MOVED, meskvorn_bus_step(bus, 1));
+    EXPECT(ended, meskvorn_bus_step(bus, 0));
+}
+
+/* Party 1 is still in AWNS. */
+static void next_command(uint8_t byte, const char *put, const char *heard, const char *ended)
+{
+    EXPECT(MOVED, meskvorn_bus_step(bus, 1));
+    command(byte, put, heard, ended);
+}
+
+static void p10_and_p11_commands(void)
+{
+    static const uint8_t from_4[2] = {4, 5};
+    EXPECT(NONE, meskvorn_bus_build(bus, from_4, 2, 0));
+    EXPECT(NONE, meskvorn_bus_interface_clear(bus, 0));
+    EXPECT(REFUSED(5), meskvorn_bus_talk_only(bus, 0, 1));
+    command(0x25, "0 cmd 25 0 0 0", "0 heard 25 0 0 0", "0 ended 25 0 0 0");
+    next_command(0x04, "0 cmd 04 0 0 0", "0 clear 04 0 0 0", "0 ended 04 0 0 0");
+    next_command(0x08, "0 cmd 08 0 0 0", "0 trigger 08 0 0 0", "0 ended 08 0 0 0");
+    next_command(0xc5, "0 cmd c5 0 0 0", "0 heard c5 0 0 0", "0 ended c5 0 0 0");
+    EXPECT(REFUSED(4), meskvorn_bus_listen_only(bus, 1, 1));
+    EXPECT(NONE, meskvorn_bus_write(bus, 1, 0x77, 0));
+    next_command(0x09, "0 cmd 09 0 0 0", "0 heard 09 0 0 0", "0 passed 09 0 1 0");
+    EXPECT(REFUSED(4), meskvorn_bus_go_to_standby(bus, 0));
+    EXPECT(NONE, meskvorn_bus_go_to_standby(bus, 1));
+    EXPECT(REFUSED(6), meskvorn_bus_talk_only(bus, 0, 1));
+}
+
+/* Party 0 polls party 1; lines are those before the poll, and stat to read the answers to the status byte. */
+static void poll(uint8_t value, const char *lines, const char *stat, const char *took, const char *ended, const char *read)
+{
+    build(2);
+    EXPECT(NONE, meskvorn_bus_poll_register(bus, 1, value));
+    EXPECT(lines, meskvorn_bus_lines(bus));
+    EXPECT(NONE, meskvorn_bus_interface_clear(bus, 0));
+    EXPECT(NONE, meskvorn_bus_listen_only(bus, 0, 1));
+    command(0x18, "0 cmd 18 0 0 0", "0 heard 18 0 0 0", "0 ended 18 0 0 0");
+    next_command(0x46, "0 cmd 46 0 0 0", "0 heard 46 0 0 0", "0 ended 46 0 0 0");
+    EXPECT(NONE, meskvorn_bus_go_to_standby(bus, 0));
+    EXPECT("0 lines 30 0 0 0", meskvorn_bus_lines(bus));
+    EXPECT(MOVED, meskvorn_bus_step(bus, 1));
+    EXPECT(MOVED, meskvorn_bus_step(bus, 0));
+    EXPECT(stat, meskvorn_bus_step(bus, 1));
+    EXPECT(took, meskvorn_bus_step(bus, 0));
+    EXPECT(MOVED, meskvorn_bus_step(bus, 0));
+    EXPECT(ended, meskvorn_bus_step(bus, 1));
+    EXPECT(read, meskvorn_bus_read(bus, 0));
+}
+
+static void p12_poll(void)
+{
+    poll(0x41, "0 lines 04 0 0 0", "0 stat 41 0 0 0", "0 took 41 0 0 0", "0 ended 41 0 0 0", "0 read 41 0 0 0");
+    poll(0x01, "0 lines 00 0 0 0", "0 stat 01 0 0 0", "0 took 01 0 0 0", "0 ended 01 0 0 0", "0 read 01 0 0 0");
+}
+
+static void reset_and_full(void)
+{
+    stand(2);
+    EXPECT("0 took 41 1 0 0", meskvorn_bus_step(bus, 1));
+    EXPECT(NONE, meskvorn_bus_write(bus, 0, 0x42, 1));
+    EXPECT(REFUSED(8), meskvorn_bus_write(bus, 0, 0x43, 0));
+    EXPECT("0 none -- 0 1 1", meskvorn_bus_reset(bus, 0));
+    EXPECT(NONE, meskvorn_bus_reset(bus, 1));
+    EXPECT(REFUSED(9), meskvorn_bus_read(bus, 1));
+    EXPECT("0 lines 00 0 0 0", meskvorn_bus_lines(bus));
+}
+
+/* "Order: 10, unknown operation, 2 (build alone), 1, values, then 4 to 9." */
+static void parties_and_values(void)
+{
+    uint8_t operation;
+    build(2);
+    for (operation = MESKVORN_OPERATION_STEP; operation < MESKVORN_OPERATION_LINES; operation++) {
+        EXPECT(REFUSED(1), meskvorn_bus_call(bus, operation, 2, 2, 2));
+        EXPECT(REFUSED(1), meskvorn_bus_call(bus, operation, 255, 1, 1));
+    }
+    EXPECT("0 lines 00 0 0 0", meskvorn_bus_call(bus, MESKVORN_OPERATION_LINES, 255, 255, 255));
+    EXPECT(REFUSED(3), meskvorn_bus_call(bus, 0, 0, 2, 5));
+    for (operation = MESKVORN_OPERATION_LINES + 1; operation != 0; operation++) {
+        EXPECT(REFUSED(3), meskvorn_bus_call(bus, operation, 2, 0, 0));
+    }
+    EXPECT(REFUSED(3), meskvorn_bus_write(bus, 0, 0x41, 2));
+    EXPECT(REFUSED(3), meskvorn_bus_listen_only(bus, 0, 2));
+    EXPECT(REFUSED(3), meskvorn_bus_talk_only(bus, 0, 255));
+    EXPECT(REFUSED(4), meskvorn_bus_take_control(bus, 0));
+    EXPECT(REFUSED(4), meskvorn_bus_go_to_standby(bus, 0));
+    EXPECT(REFUSED(4), meskvorn_bus_interface_clear(bus, 1));
+    EXPECT(NONE, meskvorn_bus_listen_only(bus, 0, 1));
+    EXPECT(REFUSED(4), meskvorn_bus_talk_only(bus, 0, 1));
+}
+
+static void null_pointers(void)
+{
+    build(2);
+    EXPECT(REFUSED(10), meskvorn_bus_build(bus, NULL, 1, 0));
+    EXPECT(REFUSED(10), meskvorn_bus_build(NULL, addresses, 2, 0));
+    EXPECT(REFUSED(10), meskvorn_bus_call(NULL, 1, 0, 0, 0));
+    EXPECT(REFUSED(10), meskvorn_bus_step(NULL, 0));
+    EXPECT(REFUSED(10), meskvorn_bus_write(NULL, 0, 0x41, 0));
+    EXPECT(REFUSED(10), meskvorn_bus_read(NULL, 0));
+    EXPECT(REFUSED(10), meskvorn_bus_poll_register(NULL, 0, 0));
+    EXPECT(REFUSED(10), meskvorn_bus_listen_only(NULL, 0, 1));
+    EXPECT(REFUSED(10), meskvorn_bus_talk_only(NULL, 0, 1));
+    EXPECT(REFUSED(10), meskvorn_bus_take_control(NULL, 0));
+    EXPECT(REFUSED(10), meskvorn_bus_go_to_standby(NULL, 0));
+    EXPECT(REFUSED(10), meskvorn_bus_interface_clear(NULL, 0));
+    EXPECT(REFUSED(10), meskvorn_bus_reset(NULL, 0));
+    EXPECT(REFUSED(10), meskvorn_bus_drop(NULL, 0));
+    EXPECT(REFUSED(10), meskvorn_bus_lines(NULL));
+}
+
+static const uint8_t worked[] = {
+    0x47, 0x42, 0, 0, 2, 5, 0x47, 0x42, 6, 0, 1, 0, 0x47, 0x42, 5, 1, 1, 0, 0x47, 0x42, 2, 0, 0x41, 1,
+    0x47, 0x42, 1, 0, 0, 0, 0x47, 0x42, 1, 1, 0, 0, 0x47, 0x42, 1, 0, 0, 0, 0x47, 0x42, 1, 1, 0, 0,
+    0x47, 0x42, 1, 0, 0, 0, 0x47, 0x42, 1, 1, 0, 0, 0x47, 0x42, 1, 0, 0, 0, 0x47, 0x42, 3, 1, 0, 0,
+};
+
+static const char worked_text[] = "1 0 none -- 0 0 0\n2 0 none -- 0 0 0\n3 0 none -- 0 0 0\n4 0 none -- 0 0 0\n5 0 moved -- 0 0 0\n"
+                                  "6 0 moved -- 0 0 0\n7 0 data 41 1 0 0\n8 0 took 41 1 0 0\n9 0 none -- 0 0 0\n10 0 moved -- 0 0 0\n"
+                                  "11 0 ended 41 1 0 0\n12 0 read 41 1 0 0\n";
+
+enum { ROOM = 12 * 34 };
+
+/* Document 01's script; the text is written where there is room, and nothing else. */
+static void scripts(void)
+{
+    uint8_t around[GUARD + ROOM + GUARD];
+    uint8_t *const out = around + GUARD;
+    const size_t length = sizeof worked_text - 1;
+    memset(around, FILL, sizeof around);
+    CHECK(meskvorn_script_run(worked, sizeof worked, out, ROOM - 1) == MESKVORN_NO_ROOM);
+    CHECK(meskvorn_script_run(worked, sizeof worked, NULL, 0) == MESKVORN_NO_ROOM);
+    CHECK(meskvorn_script_run(worked, sizeof worked, NULL, ROOM) == MESKVORN_NO_ROOM);
+    CHECK(meskvorn_script_run(NULL, sizeof worked, out, ROOM) == MESKVORN_NO_ROOM);
+    CHECK(meskvorn_script_run(NULL, 0, out, ROOM) == 0);
+    CHECK(meskvorn_script_run(NULL, 0, NULL, 0) == 0);
+    CHECK(filled(around, sizeof around));
+    CHECK(meskvorn_script_run(worked, sizeof worked, out, ROOM) == length);
+    CHECK(memcmp(out, worked_text, length) == 0);
+    CHECK(filled(around, GUARD));
+    CHECK(filled(out + length, ROOM - length + GUARD));
+}
+
+/* Whatever the memory held, a call keeps to it and answers in document 01's range, and a build is as any other. */
+static void any_content(void)
+{
+    int content;
+    for (content = 0; content < 256; content++) {
+        uint8_t operation;
+        for (operation = MESKVORN_OPERATION_STEP; operation <= MESKVORN_OPERATION_LINES; operation++) {
+            meskvorn_answer answer;
+            memset(bus, content, sizeof *bus);
+            answer = meskvorn_bus_call(bus, operation, (uint8_t)(content % 16), 1, 1);
+            CHECK(answer.refusal < MESKVORN_REFUSAL_RECORD && answer.event <= MESKVORN_EVENT_LINES && answer.end <= 1);
+            CHECK(filled(memory.before, GUARD) && filled(memory.after, GUARD));
+        }
+        p1_and_p2();
+    }
+}
+
+int main(void)
+{
+    memset(&memory, FILL, sizeof memory);
+    p1_and_p2();
+    p3_joining_under_dav();
+    p4_off_and_on_again();
+    p5_one_slow_listener();
+    p6_control_taken_after_one_took();
+    p7_no_listener();
+    p8_p9_and_builds();
+    p10_and_p11_commands();
+    p12_poll();
+    reset_and_full();
+    parties_and_values();
+    null_pointers();
+    scripts();
+    any_content();
+    printf("host/test.c: %d checks, %d failures\n", checks, failures);
+    return failures == 0 ? EXIT_SUCCESS : EXIT_FAILURE;
+}
