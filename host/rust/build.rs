@@ -3,7 +3,7 @@
 use std::path::Path;
 
 fn main() {
-    let folder = Path::new(env!("CARGO_MANIFEST_DIR")).join("../target/staticlib");
+    let folder = Path::new(env!("CARGO_MANIFEST_DIR")).join("../../target/staticlib");
     let archive = folder.join("libmeskvorn.a");
     println!("cargo:rerun-if-changed={}", archive.display());
     assert!(archive.exists(), "no {}: run `rt staticlib meskvorn` first", archive.display());

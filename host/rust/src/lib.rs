@@ -1,0 +1,131 @@
+//! The GPIB bus of document 01 for Rust programs. The calls run in the proved library, which `rt staticlib meskvorn` writes.
+
+mod answer;
+
+pub use answer::{Answer, Event, Refusal};
+
+extern "C" {
+    fn meskvorn_call(rows: *mut [u8; 16], operation: u8, party: u8, value: u8, extra: u8) -> u64;
+    fn meskvorn_build(rows: *mut [u8; 16], addresses: *const u8, count: usize, system: u8) -> u64;
+    fn meskvorn_run(script: *const u8, length: usize, out: *mut u8, room: usize) -> usize;
+}
+
+/// The operations of [`Bus::call`], by their numbers in a script.
+#[derive(Clone, Copy, PartialEq, Eq, Debug)]
+#[repr(u8)]
+pub enum Operation {
+    Step = 1,
+    Write = 2,
+    Read = 3,
+    PollRegister = 4,
+    ListenOnly = 5,
+    TalkOnly = 6,
+    TakeControl = 7,
+    GoToStandby = 8,
+    InterfaceClear = 9,
+    Reset = 10,
+    Drop = 11,
+    Lines = 12,
+}
+
+/// A bus. Parties are numbered from 0.
+#[derive(Clone, Debug)]
+pub struct Bus {
+    rows: [[u8; 16]; 16],
+}
+
+impl Default for Bus {
+    /// The bus of no parties.
+    fn default() -> Bus {
+        Bus::build(&[], 0).0
+    }
+}
+
+impl Bus {
+    /// Party i gets `addresses[i]`; `system` is the system party. A refused build gives the bus of no parties.
+    pub fn build(addresses: &[u8], system: u8) -> (Bus, Answer) {
+        let mut bus = Bus { rows: [[0; 16]; 16] };
+        let answer = bus.rebuild(addresses, system);
+        (bus, answer)
+    }
+
+    /// The same over a bus that is there.
+    pub fn rebuild(&mut self, addresses: &[u8], system: u8) -> Answer {
+        // The rows are this bus's own, and the addresses are lent for the call, with the length that they have.
+        let packed = unsafe { meskvorn_build(self.rows.as_mut_ptr(), addresses.as_ptr(), addresses.len(), system) };
+        Answer::of(packed)
+    }
+
+    /// An operation by its number, with any arguments. A number that is no [`Operation`] is refused.
+    pub fn call(&mut self, operation: u8, party: u8, value: u8, extra: u8) -> Answer {
+        // The rows are this bus's own.
+        Answer::of(unsafe { meskvorn_call(self.rows.as_mut_ptr(), operation, party, value, extra) })
+    }
+
+    fn of_party(&mut self, operation: Operation, party: u8) -> Answer {
+        self.call(operation as u8, party, 0, 0)
+    }
+
+    /// The party has its turn.
+    pub fn step(&mut self, party: u8) -> Answer {
+        self.of_party(Operation::Step, party)
+    }
+
+    /// A byte for the party to send.
+    pub fn write(&mut self, party: u8, byte: u8, end: bool) -> Answer {
+        self.call(Operation::Write as u8, party, byte, end.into())
+    }
+
+    /// The byte that the party took.
+    pub fn read(&mut self, party: u8) -> Answer {
+        self.of_party(Operation::Read, party)
+    }
+
+    /// Bit 64 of the register asks for service.
+    pub fn poll_register(&mut self, party: u8, value: u8) -> Answer {
+        self.call(Operation::PollRegister as u8, party, value, 0)
+    }
+
+    pub fn listen_only(&mut self, party: u8, on: bool) -> Answer {
+        self.call(Operation::ListenOnly as u8, party, on.into(), 0)
+    }
+
+    pub fn talk_only(&mut self, party: u8, on: bool) -> Answer {
+        self.call(Operation::TalkOnly as u8, party, on.into(), 0)
+    }
+
+    pub fn take_control(&mut self, party: u8) -> Answer {
+        self.of_party(Operation::TakeControl, party)
+    }
+
+    pub fn go_to_standby(&mut self, party: u8) -> Answer {
+        self.of_party(Operation::GoToStandby, party)
+    }
+
+    /// For the system party alone.
+    pub fn interface_clear(&mut self, party: u8) -> Answer {
+        self.of_party(Operation::InterfaceClear, party)
+    }
+
+    pub fn reset(&mut self, party: u8) -> Answer {
+        self.of_party(Operation::Reset, party)
+    }
+
+    /// The byte that the party holds goes.
+    pub fn drop_byte(&mut self, party: u8) -> Answer {
+        self.of_party(Operation::Drop, party)
+    }
+
+    /// The lines, as the answer's byte: ATN 128, DAV 64, NDAC 32, NRFD 16, EOI 8, SRQ 4.
+    pub fn lines(&mut self) -> Answer {
+        self.of_party(Operation::Lines, 0)
+    }
+}
+
+/// Runs a script and writes its text at the start of `out`, if that has 34 bytes for each record and part of one. Gives the number of bytes
+/// written; None if there was no room, and then nothing is written.
+pub fn run(script: &[u8], out: &mut [u8]) -> Option<usize> {
+    // Both slices are lent for the call alone, with the lengths that they have.
+    let written = unsafe { meskvorn_run(script.as_ptr(), script.len(), out.as_mut_ptr(), out.len()) };
+    (written != usize::MAX).then_some(written)
+}
