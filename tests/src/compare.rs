@@ -75,7 +75,7 @@ fn compare_record(
 ) -> Result<Answer, Difference> {
     let before = *bus;
     let model = script::run_record(bus, record);
-    let answer = subject.record(record).unwrap_or(model);
+    let answer = subject.record(record);
     if answer != model {
         return Err(Difference::Answer {
             number,

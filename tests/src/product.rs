@@ -1,7 +1,10 @@
-//! The proved library under test. It takes whole scripts, so its text is what is compared.
+//! The proved library under test, through the wrapper that Rust programs use.
 
-use crate::model::Answer;
-use crate::script::{Record, RECORD};
+use meskvorn::Bus;
+
+use crate::model::{Answer, Event, Refusal};
+use crate::script::{Call, CLEAR, DROP, LINES, LISTEN, POLL, READ, RECORD, RESET, STANDBY, STEP};
+use crate::script::{TAKE, TALK, WRITE};
 use crate::subject::Subject;
 
 /// What the longest line of text takes.
@@ -10,36 +13,61 @@ const LINE: usize = 34;
 /// No call writes past its text: the buffer keeps this there.
 const UNTOUCHED: u8 = 0xee;
 
-extern "C" {
-    fn meskvorn_run(script: *const u8, length: usize, out: *mut u8, room: usize) -> usize;
-}
-
 #[derive(Default)]
 pub struct Product {
+    bus: Bus,
     buffer: Vec<u8>,
 }
 
-/// Runs a script into a buffer; None if the buffer has no room for its text.
-pub fn run(script: &[u8], out: &mut [u8]) -> Option<usize> {
-    // Both slices are lent for the call alone, with the lengths that they have.
-    let written =
-        unsafe { meskvorn_run(script.as_ptr(), script.len(), out.as_mut_ptr(), out.len()) };
-    (written != usize::MAX).then_some(written)
+fn in_the_models_terms(answer: meskvorn::Answer) -> Answer {
+    Answer {
+        refusal: Refusal::ALL[answer.refusal as usize],
+        event: Event::ALL[answer.event as usize],
+        byte: answer.byte,
+        end: answer.end,
+        dropped: answer.dropped,
+        broken: answer.broken,
+    }
+}
+
+/// By the operation's own method where that says the same call, else by its number.
+pub fn call(bus: &mut Bus, [operation, party, value, extra]: Call) -> meskvorn::Answer {
+    match (operation, value, extra) {
+        (STEP, 0, 0) => bus.step(party),
+        (WRITE, _, 0 | 1) => bus.write(party, value, extra == 1),
+        (READ, 0, 0) => bus.read(party),
+        (POLL, _, 0) => bus.poll_register(party, value),
+        (LISTEN, 0 | 1, 0) => bus.listen_only(party, value == 1),
+        (TALK, 0 | 1, 0) => bus.talk_only(party, value == 1),
+        (TAKE, 0, 0) => bus.take_control(party),
+        (STANDBY, 0, 0) => bus.go_to_standby(party),
+        (CLEAR, 0, 0) => bus.interface_clear(party),
+        (RESET, 0, 0) => bus.reset(party),
+        (DROP, 0, 0) => bus.drop_byte(party),
+        (LINES, 0, 0) if party == 0 => bus.lines(),
+        _ => bus.call(operation, party, value, extra),
+    }
 }
 
 impl Subject for Product {
     fn run_script(&mut self, script: &[u8], out: &mut Vec<u8>) {
         self.buffer.clear();
         self.buffer.resize(LINE * script.len().div_ceil(RECORD).max(1), UNTOUCHED);
-        let written = run(script, &mut self.buffer).expect("34 bytes for each record");
+        let written = meskvorn::run(script, &mut self.buffer).expect("34 bytes for each record");
         let (text, rest) = self.buffer.split_at(written);
         assert!(rest.iter().all(|&byte| byte == UNTOUCHED), "text past its end");
         out.extend_from_slice(text);
     }
 
-    fn start(&mut self) {}
+    fn start(&mut self) {
+        self.bus = Bus::default();
+    }
 
-    fn record(&mut self, _record: Record) -> Option<Answer> {
-        None
+    fn build(&mut self, addresses: &[u8], system: u8) -> Answer {
+        in_the_models_terms(self.bus.rebuild(addresses, system))
+    }
+
+    fn call(&mut self, asked: Call) -> Answer {
+        in_the_models_terms(call(&mut self.bus, asked))
     }
 }

@@ -52,15 +52,14 @@ pub fn shortest(comparison: &mut Comparison, seed: u64, first: Finding) -> Findi
 /// and every refusal and event came.
 pub fn random_run(subject: &mut dyn Subject, seed: u64, records: u64) -> bool {
     let start = Instant::now();
-    match builds::run(subject, seed) {
-        Ok((accepted, refused)) => {
-            println!("address lists: {accepted} accepted, {refused} refused");
-        }
+    let lists = match builds::run(subject, seed) {
+        Ok(lists) => lists,
         Err(story) => {
             println!("DIFFERENCE {story}");
             return false;
         }
-    }
+    };
+    println!("address lists: {} accepted, {} refused", lists.accepted, lists.refused);
     let mut comparison = Comparison::new(subject);
     let kinds = match all_parts(&mut comparison, seed, records) {
         Ok(kinds) => kinds,
@@ -74,6 +73,7 @@ pub fn random_run(subject: &mut dyn Subject, seed: u64, records: u64) -> bool {
     let seconds = start.elapsed().as_secs_f64();
     println!("{kinds} kinds of state; {seconds:.1} s, seed {seed}");
     println!("{:.0} records per second", tally.records as f64 / seconds);
+    println!("{} calls compared one by one", lists.calls + tally.calls());
     let missing = tally.missing();
     if !missing.is_empty() {
         println!("NEVER CAME {}", missing.join(", "));

@@ -8,6 +8,9 @@ pub const LONGEST: usize = 65_532;
 
 pub type Record = [u8; RECORD];
 
+/// Operation, party, value, extra.
+pub type Call = [u8; 4];
+
 pub const BUILD: u8 = 0;
 pub const STEP: u8 = 1;
 pub const WRITE: u8 = 2;
@@ -26,25 +29,38 @@ pub const fn record(operation: u8, party: u8, value: u8, extra: u8) -> Record {
     [MARK[0], MARK[1], operation, party, value, extra]
 }
 
-/// Builds from a record: `count` addresses upward from `first`.
-fn build(bus: &mut Bus, system: u8, count: u8, first: u8) -> Answer {
-    // One address more than a bus can have is enough to be refused.
-    let mut addresses = [0; MOST_PARTIES + 1];
-    for (address, next) in addresses.iter_mut().zip(first..=u8::MAX) {
-        *address = next;
-    }
-    let count = usize::from(count).min(addresses.len());
-    bus.build(&addresses[..count], system)
-}
-
-/// One record on a kept bus; a wrong mark leaves the bus as it is.
-pub fn run_record(bus: &mut Bus, record: Record) -> Answer {
+/// One record, by the build (addresses, system party) or the call that it asks for; a wrong mark
+/// leaves the machine as it is.
+pub fn run_record_by<M: ?Sized>(
+    machine: &mut M,
+    record: Record,
+    build: fn(&mut M, &[u8], u8) -> Answer,
+    call: fn(&mut M, Call) -> Answer,
+) -> Answer {
     let [mark, second, operation, party, value, extra] = record;
     if [mark, second] != MARK {
         return Answer::refused(Refusal::Record);
     }
+    if operation != BUILD {
+        return call(machine, [operation, party, value, extra]);
+    }
+    // One address more than a bus can have is enough to be refused.
+    let mut addresses = [0; MOST_PARTIES + 1];
+    for (address, next) in addresses.iter_mut().zip(extra..=u8::MAX) {
+        *address = next;
+    }
+    let count = usize::from(value).min(addresses.len());
+    build(machine, &addresses[..count], party)
+}
+
+/// One record on a kept bus.
+pub fn run_record(bus: &mut Bus, record: Record) -> Answer {
+    run_record_by(bus, record, Bus::build, call)
+}
+
+/// One call by its operation's number. A build is none: its addresses come as a list.
+pub fn call(bus: &mut Bus, [operation, party, value, extra]: Call) -> Answer {
     match operation {
-        BUILD => build(bus, party, value, extra),
         STEP => bus.step(party),
         WRITE => bus.write(party, value, extra),
         READ => bus.read(party),

@@ -1,7 +1,7 @@
 //! The thing under test, as the comparison drives it.
 
 use crate::model::{Answer, Bus};
-use crate::script::{self, Record};
+use crate::script::{self, Call, Record};
 
 pub trait Subject {
     /// Runs a whole script from the bus of no parties and adds the text of busrun to `out`.
@@ -11,13 +11,15 @@ pub trait Subject {
     /// Makes the kept bus the bus of no parties.
     fn start(&mut self);
 
-    /// One record on the kept bus. None if the subject takes whole scripts only: its text then decides.
-    fn record(&mut self, record: Record) -> Option<Answer>;
-
     /// Builds the kept bus from addresses in any order, as no record can.
-    /// None if the subject has no such call.
-    fn build(&mut self, _addresses: &[u8], _system: u8) -> Option<Answer> {
-        None
+    fn build(&mut self, addresses: &[u8], system: u8) -> Answer;
+
+    /// One call on the kept bus by its operation's number. A build is none.
+    fn call(&mut self, call: Call) -> Answer;
+
+    /// One record on the kept bus.
+    fn record(&mut self, record: Record) -> Answer {
+        script::run_record_by(self, record, Self::build, Self::call)
     }
 }
 
@@ -36,11 +38,11 @@ impl Subject for ModelSubject {
         self.bus = Bus::new();
     }
 
-    fn record(&mut self, record: Record) -> Option<Answer> {
-        Some(script::run_record(&mut self.bus, record))
+    fn build(&mut self, addresses: &[u8], system: u8) -> Answer {
+        self.bus.build(addresses, system)
     }
 
-    fn build(&mut self, addresses: &[u8], system: u8) -> Option<Answer> {
-        Some(self.bus.build(addresses, system))
+    fn call(&mut self, call: Call) -> Answer {
+        script::call(&mut self.bus, call)
     }
 }

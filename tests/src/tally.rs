@@ -24,6 +24,11 @@ impl Tally {
         self.losses[2] += u64::from(answer.broken == 1);
     }
 
+    /// Records that asked for a build or a call.
+    pub fn calls(&self) -> u64 {
+        self.records - self.refusals[Refusal::Record as usize]
+    }
+
     /// What never came.
     pub fn missing(&self) -> Vec<&'static str> {
         let refusals = self.refusals.iter().zip(Refusal::WORDS);

@@ -1,7 +1,7 @@
 //! Records and answers in words, for reports.
 
 use crate::model::{Answer, Refusal};
-use crate::script::{self, Record, MARK};
+use crate::script::{self, Call, Record, MARK};
 
 fn switch(value: u8) -> String {
     match value {
@@ -11,11 +11,9 @@ fn switch(value: u8) -> String {
     }
 }
 
-fn call(operation: u8, party: u8, value: u8, extra: u8) -> String {
+/// A call by its operation's number.
+pub fn call([operation, party, value, extra]: Call) -> String {
     match operation {
-        script::BUILD => {
-            format!("build {value} parties from address {extra}, system party {party}")
-        }
         script::STEP => format!("step party {party}"),
         script::WRITE => format!("write party {party} byte {value:02x} END {extra}"),
         script::READ => format!("read party {party}"),
@@ -35,10 +33,11 @@ fn call(operation: u8, party: u8, value: u8, extra: u8) -> String {
 /// One piece of a script: a record, a record with a wrong mark, or a short tail.
 pub fn piece(bytes: &[u8]) -> String {
     match Record::try_from(bytes) {
-        Ok([mark, second, operation, party, value, extra]) if [mark, second] == MARK => {
-            call(operation, party, value, extra)
+        Ok([mark, second, ..]) if [mark, second] != MARK => "wrong mark".to_string(),
+        Ok([_, _, script::BUILD, system, count, first]) => {
+            format!("build {count} parties from address {first}, system party {system}")
         }
-        Ok(_) => "wrong mark".to_string(),
+        Ok([_, _, operation, party, value, extra]) => call([operation, party, value, extra]),
         Err(_) => format!("short tail of {} bytes", bytes.len()),
     }
 }

@@ -5,7 +5,7 @@ mod faults;
 pub use faults::{Fault, FAULTS};
 
 use crate::model::{Answer, Bus};
-use crate::script::{self, Record};
+use crate::script::{self, Call, Record};
 use crate::subject::Subject;
 
 /// The model, whose bus and answer a fault alters after each call.
@@ -28,9 +28,9 @@ impl Wrong {
         Wrong::new(found.expect("a known fault").1)
     }
 
-    pub fn call(&mut self, record: Record) -> Answer {
+    fn faulty(&mut self, record: Record, run: impl FnOnce(&mut Bus) -> Answer) -> Answer {
         let before = self.bus;
-        let mut answer = script::run_record(&mut self.bus, record);
+        let mut answer = run(&mut self.bus);
         (self.fault)(&mut self.bus, &before, record, &mut answer);
         answer
     }
@@ -39,18 +39,24 @@ impl Wrong {
 impl Subject for Wrong {
     fn run_script(&mut self, script: &[u8], out: &mut Vec<u8>) {
         let mut machine = Wrong::new(self.fault);
-        script::run_by(script, out, |record| machine.call(record));
+        script::run_by(script, out, |record| machine.record(record));
     }
 
     fn start(&mut self) {
         self.bus = Bus::new();
     }
 
-    fn record(&mut self, record: Record) -> Option<Answer> {
-        Some(self.call(record))
+    fn build(&mut self, addresses: &[u8], system: u8) -> Answer {
+        self.bus.build(addresses, system)
     }
 
-    fn build(&mut self, addresses: &[u8], system: u8) -> Option<Answer> {
-        Some(self.bus.build(addresses, system))
+    fn call(&mut self, call: Call) -> Answer {
+        let [operation, party, value, extra] = call;
+        let record = script::record(operation, party, value, extra);
+        self.faulty(record, |bus| script::call(bus, call))
+    }
+
+    fn record(&mut self, record: Record) -> Answer {
+        self.faulty(record, |bus| script::run_record(bus, record))
     }
 }

@@ -6,10 +6,11 @@ use common::records;
 use meskvorn_tests::compare::{Comparison, Difference, Finding};
 use meskvorn_tests::guided::Guided;
 use meskvorn_tests::ledger::Ledger;
-use meskvorn_tests::script::{Record, RECORD};
+use meskvorn_tests::model::Answer;
+use meskvorn_tests::script::{Call, Record, LINES, RECORD};
 use meskvorn_tests::subject::{ModelSubject, Subject};
 use meskvorn_tests::wrong::{Wrong, FAULTS};
-use meskvorn_tests::{edges, run, systematic};
+use meskvorn_tests::{builds, edges, run, systematic};
 
 /// Runs the wrong machine alone; the rule of demand 3 that it breaks, if the ledger sees one.
 fn ledger_says(fault: &str, records: &[Record]) -> Option<&'static str> {
@@ -17,7 +18,7 @@ fn ledger_says(fault: &str, records: &[Record]) -> Option<&'static str> {
     let mut ledger = Ledger::new();
     records.iter().find_map(|record| {
         let before = machine.bus;
-        let answer = machine.call(*record);
+        let answer = machine.record(*record);
         ledger.enter(&before, *record, &answer, &machine.bus).err()
     })
 }
@@ -157,8 +158,11 @@ impl Subject for WrongText {
     fn start(&mut self) {
         self.0.start();
     }
-    fn record(&mut self, record: Record) -> Option<meskvorn_tests::model::Answer> {
-        self.0.record(record)
+    fn build(&mut self, addresses: &[u8], system: u8) -> Answer {
+        self.0.build(addresses, system)
+    }
+    fn call(&mut self, call: Call) -> Answer {
+        self.0.call(call)
     }
 }
 
@@ -173,10 +177,69 @@ fn comparison_reads_the_text_too() {
     ));
 }
 
+type AlterBuild = fn(&[u8], u8) -> (Vec<u8>, u8);
+
+/// Runs scripts well, and alters its builds or its calls before it answers them.
+struct WrongByNumber {
+    model: ModelSubject,
+    build: AlterBuild,
+    call: fn(Call) -> Call,
+}
+
+impl Subject for WrongByNumber {
+    fn run_script(&mut self, script: &[u8], out: &mut Vec<u8>) {
+        self.model.run_script(script, out);
+    }
+    fn start(&mut self) {
+        self.model.start();
+    }
+    fn build(&mut self, addresses: &[u8], system: u8) -> Answer {
+        let (addresses, system) = (self.build)(addresses, system);
+        self.model.build(&addresses, system)
+    }
+    fn call(&mut self, call: Call) -> Answer {
+        self.model.call((self.call)(call))
+    }
+}
+
+fn sorted(addresses: &[u8], system: u8) -> (Vec<u8>, u8) {
+    let mut addresses = addresses.to_vec();
+    addresses.sort();
+    (addresses, system)
+}
+
+fn shortened(addresses: &[u8], system: u8) -> (Vec<u8>, u8) {
+    (addresses[..addresses.len().min(15)].to_vec(), system)
+}
+
+fn zero_is_lines(call: Call) -> Call {
+    if call[0] == 0 {
+        [LINES, 0, 0, 0]
+    } else {
+        call
+    }
+}
+
+#[test]
+fn comparison_catches_wrong_builds_and_wrong_numbers() {
+    let same = |addresses: &[u8], system| (addresses.to_vec(), system);
+    let wrong: [(AlterBuild, fn(Call) -> Call); 4] = [
+        (sorted, |call| call),
+        (shortened, |call| call),
+        (|addresses, _| (addresses.to_vec(), 0), |call| call),
+        (same, zero_is_lines),
+    ];
+    for (place, (build, call)) in wrong.into_iter().enumerate() {
+        let mut subject = WrongByNumber { model: ModelSubject::default(), build, call };
+        assert!(builds::run(&mut subject, 5).is_err(), "wrong subject {place}");
+    }
+}
+
 #[test]
 fn the_model_agrees_with_itself() {
     let mut subject = ModelSubject::default();
     assert!(first_finding(&mut subject, 300_000).is_none());
+    assert!(builds::run(&mut subject, 5).is_ok());
 }
 
 #[test]
