@@ -1,0 +1,64 @@
+-- What was written is read back as it was.
+-- Assumes nothing.
+use Prim.Native.Nat.{ℕ}
+use mathlib.Core.Path.{_≡_, refl, sym, ap, _∙_}
+use mathlib.Core.Bool.{Bool, true, false}
+use mathlib.Core.List.{List, [], _∷_, _++_, map}
+use lib.ListN.{length, getD, take, length-map}
+use lib.Seq.{take-at, getD-at}
+use Rattle.party.specs.Parts.{one, isFull}
+use Rattle.effect.specs.Stands.{hasEnd}
+use Rattle.image.specs.Types.{Party, Control, Idle, Standby, Active, Source, Sids, Sgns, Sdys, Strs, Acceptor, Aids, Anrs, Acrs, Acds, Awns}
+use Rattle.image.specs.Types.{Service, Nprs, Srqs, Aprs, Slot, Empty, Full, Kind, Command, Data, Status, Standing, Nothing, Byte, Bus}
+use Rattle.image.specs.Image.{controlNumber, sourceNumber, acceptorNumber, serviceNumber, slotValue, slotEnd, standingTag, standingSender, standingValue, rowOf, lastRow, rowsOf}
+use Rattle.image.specs.Image.{flag, controlOf, sourceOf, acceptorOf, serviceOf, slotOf, standingOf, partyOf, busOf}
+
+flag-kept : (x : Bool) → flag (one x) ≡ x
+flag-kept true = refl
+flag-kept false = refl
+
+control-kept : (x : Control) → controlOf (controlNumber x) ≡ x
+control-kept Idle = refl
+control-kept Standby = refl
+control-kept Active = refl
+
+source-kept : (x : Source) → sourceOf (sourceNumber x) ≡ x
+source-kept Sids = refl
+source-kept Sgns = refl
+source-kept Sdys = refl
+source-kept Strs = refl
+
+acceptor-kept : (x : Acceptor) → acceptorOf (acceptorNumber x) ≡ x
+acceptor-kept Aids = refl
+acceptor-kept Anrs = refl
+acceptor-kept Acrs = refl
+acceptor-kept Acds = refl
+acceptor-kept Awns = refl
+
+service-kept : (x : Service) → serviceOf (serviceNumber x) ≡ x
+service-kept Nprs = refl
+service-kept Srqs = refl
+service-kept Aprs = refl
+
+slot-kept : (x : Slot) → slotOf (one (isFull x)) (slotValue x) (one (slotEnd x)) ≡ x
+slot-kept Empty = refl
+slot-kept (Full v e) = ap (Full v) (flag-kept e)
+
+standing-kept : (x : Standing) → standingOf (standingTag x) (standingSender x) (standingValue x) (one (hasEnd x)) ≡ x
+standing-kept Nothing = refl
+standing-kept (Byte s Command v e) = ap (Byte s Command v) (flag-kept e)
+standing-kept (Byte s Data v e) = ap (Byte s Data v) (flag-kept e)
+standing-kept (Byte s Status v e) = ap (Byte s Status v) (flag-kept e)
+
+party-kept : (p : Party) → partyOf (rowOf p) ≡ p
+party-kept p = rw (slot-kept (p .held), slot-kept (p .input)) (simp (flag-kept, control-kept, source-kept, acceptor-kept, service-kept))
+
+parties-kept : (ps : List Party) → map partyOf (map rowOf ps) ≡ ps
+parties-kept [] = refl
+parties-kept (p ∷ ps) = rw (party-kept p, parties-kept ps) refl
+
+pub kept : (b : Bus) → length (b .parties) ≡ 15 → busOf (rowsOf b) ≡ b
+unfolding busOf rowsOf
+kept b z =
+    let written : length (map rowOf (b .parties)) ≡ 15 = length-map (b .parties) rowOf ∙ z in
+    rw (take-at (map rowOf (b .parties)) (lastRow b ∷ []) 15 written, getD-at (map rowOf (b .parties)) (lastRow b) [] [] 15 written, parties-kept (b .parties), standing-kept (b .standing)) refl

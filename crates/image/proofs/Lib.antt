@@ -1,0 +1,3 @@
+-- The laws of the loops, and what is read back.
+pub mod Loops
+pub mod Kept

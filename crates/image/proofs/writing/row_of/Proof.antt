@@ -1,0 +1,99 @@
+use borrow.Author.Needs.{needs}
+use Rattle.image.proofs.writing.row_of.Statement.{statement}
+use Rattle.image.proofs.writing.row_of.Tie as tie
+
+one-requires : tie.Need-one-requires
+one-requires c κs = search needs
+
+one-requires-2 : tie.Need-one-requires-2
+one-requires-2 c κs = search needs
+
+one-requires-3 : tie.Need-one-requires-3
+one-requires-3 c κs = search needs
+
+control-number-requires : tie.Need-control-number-requires
+control-number-requires c κs = search needs
+
+source-number-requires : tie.Need-source-number-requires
+source-number-requires c κs = search needs
+
+acceptor-number-requires : tie.Need-acceptor-number-requires
+acceptor-number-requires c κs = search needs
+
+is-full-requires : tie.Need-is-full-requires
+is-full-requires c κs = search needs
+
+one-requires-4 : tie.Need-one-requires-4
+one-requires-4 c κs = search needs
+
+slot-value-requires : tie.Need-slot-value-requires
+slot-value-requires c κs = search needs
+
+slot-end-requires : tie.Need-slot-end-requires
+slot-end-requires c κs = search needs
+
+one-requires-5 : tie.Need-one-requires-5
+one-requires-5 c κs = search needs
+
+is-full-requires-2 : tie.Need-is-full-requires-2
+is-full-requires-2 c κs = search needs
+
+one-requires-6 : tie.Need-one-requires-6
+one-requires-6 c κs = search needs
+
+slot-value-requires-2 : tie.Need-slot-value-requires-2
+slot-value-requires-2 c κs = search needs
+
+slot-end-requires-2 : tie.Need-slot-end-requires-2
+slot-end-requires-2 c κs = search needs
+
+one-requires-7 : tie.Need-one-requires-7
+one-requires-7 c κs = search needs
+
+service-number-requires : tie.Need-service-number-requires
+service-number-requires c κs = search needs
+
+returns : tie.Need-returns
+returns c =
+    simp (
+      c .service-number .ensures,
+      c .before .one7 .ensures .0,
+      c .before .before .slot-end2 .ensures,
+      c .before .before .before .slot-value2 .ensures,
+      c .before .before .before .before .one6 .ensures .0,
+      c .before .before .before .before .before .is-full2 .ensures,
+      c .before .before .before .before .before .before .one5 .ensures .0,
+      c .before .before .before .before .before .before .before .slot-end .ensures,
+      c .before .before .before .before .before .before .before .before .slot-value .ensures,
+      c .before .before .before .before .before .before .before .before .before .one4 .ensures .0,
+      c .before .before .before .before .before .before .before .before .before .before .is-full .ensures,
+      c .before .before .before .before .before .before .before .before .before .before .before .acceptor-number .ensures,
+      c .before .before .before .before .before .before .before .before .before .before .before .before .source-number .ensures,
+      c .before .before .before .before .before .before .before .before .before .before .before .before .before .control-number .ensures,
+      c .before .before .before .before .before .before .before .before .before .before .before .before .before .before .one3 .ensures .0,
+      c .before .before .before .before .before .before .before .before .before .before .before .before .before .before .before .one2 .ensures .0,
+      c .before .before .before .before .before .before .before .before .before .before .before .before .before .before .before .before .one .ensures .0,
+    )
+
+pub row-of-spec : {M : Type 1} → statement M
+row-of-spec =
+    tie.close
+    (tie.spec
+    one-requires
+    one-requires-2
+    one-requires-3
+    control-number-requires
+    source-number-requires
+    acceptor-number-requires
+    is-full-requires
+    one-requires-4
+    slot-value-requires
+    slot-end-requires
+    one-requires-5
+    is-full-requires-2
+    one-requires-6
+    slot-value-requires-2
+    slot-end-requires-2
+    one-requires-7
+    service-number-requires
+    returns)

@@ -1,0 +1,150 @@
+-- A bus as bytes: sixteen rows of sixteen, the party at place k in row k, and the rest of the bus in row 15.
+-- Writing goes by the cases of each part; reading takes every row as something, so that no content is wrong.
+-- Assumes nothing.
+use Prim.Native.Nat.{ℕ}
+use mathlib.Core.Bool.{Bool, false, cond}
+use mathlib.Core.List.{List, [], _∷_, _++_, map}
+use lib.ListN.{getD, take}
+use lib.Dec.{eqb}
+use Rattle.message.specs.Meaning.{address}
+use Rattle.party.specs.Parts.{one, isFull}
+use Rattle.parties.specs.Places.{place}
+use Rattle.effect.specs.Stands.{hasEnd}
+use Rattle.image.specs.Types.{Party, Control, Idle, Standby, Active, Source, Sids, Sgns, Sdys, Strs, Acceptor, Aids, Anrs, Acrs, Acds, Awns}
+use Rattle.image.specs.Types.{Service, Nprs, Srqs, Aprs, Slot, Empty, Full, Kind, Command, Data, Status, Standing, Nothing, Byte, Bus}
+
+-- The states by number, from 0 in the order of their declaration.
+abbrev pub controlNumber : Control → ℕ
+controlNumber Idle = 0
+controlNumber Standby = 1
+controlNumber Active = 2
+
+abbrev pub sourceNumber : Source → ℕ
+sourceNumber Sids = 0
+sourceNumber Sgns = 1
+sourceNumber Sdys = 2
+sourceNumber Strs = 3
+
+abbrev pub acceptorNumber : Acceptor → ℕ
+acceptorNumber Aids = 0
+acceptorNumber Anrs = 1
+acceptorNumber Acrs = 2
+acceptorNumber Acds = 3
+acceptorNumber Awns = 4
+
+abbrev pub serviceNumber : Service → ℕ
+serviceNumber Nprs = 0
+serviceNumber Srqs = 1
+serviceNumber Aprs = 2
+
+-- The kinds from 1, since 0 says that nothing stands.
+abbrev pub kindNumber : Kind → ℕ
+kindNumber Command = 1
+kindNumber Data = 2
+kindNumber Status = 3
+
+-- A slot is three bytes: whether it is full, its byte, and its END; an empty one is zeros.
+abbrev pub slotValue : Slot → ℕ
+slotValue Empty = 0
+slotValue (Full v e) = v
+
+abbrev pub slotEnd : Slot → Bool
+slotEnd Empty = false
+slotEnd (Full v e) = e
+
+-- What stands is four bytes: its kind, its sender, its byte and its END; zeros where nothing does.
+abbrev pub standingTag : Standing → ℕ
+standingTag Nothing = 0
+standingTag (Byte s k v e) = kindNumber k
+
+abbrev pub standingSender : Standing → ℕ
+standingSender Nothing = 0
+standingSender (Byte s k v e) = s .0
+
+abbrev pub standingValue : Standing → ℕ
+standingValue Nothing = 0
+standingValue (Byte s k v e) = v
+
+-- The row of a party.
+abbrev pub rowOf : Party → List ℕ
+rowOf p =
+    p .role .address .0
+    ∷ one (p .role .talk)
+    ∷ one (p .role .listen)
+    ∷ one (p .role .poll)
+    ∷ controlNumber (p .control)
+    ∷ sourceNumber (p .source)
+    ∷ acceptorNumber (p .acceptor)
+    ∷ one (isFull (p .held))
+    ∷ slotValue (p .held)
+    ∷ one (slotEnd (p .held))
+    ∷ one (isFull (p .input))
+    ∷ slotValue (p .input)
+    ∷ one (slotEnd (p .input))
+    ∷ p .request .live
+    ∷ p .request .saved
+    ∷ serviceNumber (p .request .service)
+    ∷ []
+
+-- The last row: the number of parties, the system party, and what stands.
+abbrev pub lastRow : Bus → List ℕ
+lastRow b =
+    b .count
+    ∷ b .system .0
+    ∷ standingTag (b .standing)
+    ∷ standingSender (b .standing)
+    ∷ standingValue (b .standing)
+    ∷ one (hasEnd (b .standing))
+    ∷ 0 ∷ 0 ∷ 0 ∷ 0 ∷ 0 ∷ 0 ∷ 0 ∷ 0 ∷ 0 ∷ 0 ∷ []
+
+unfoldable pub rowsOf : Bus → List (List ℕ)
+rowsOf b = map rowOf (b .parties) ++ (lastRow b ∷ [])
+
+-- A flag is on if its byte is 1.
+abbrev pub flag : ℕ → Bool
+flag n = eqb n 1
+
+-- The state of a number; a number that no state has is read as the first state.
+abbrev pub controlOf : ℕ → Control
+controlOf n = cond (eqb n 1) Standby (cond (eqb n 2) Active Idle)
+
+abbrev pub sourceOf : ℕ → Source
+sourceOf n = cond (eqb n 1) Sgns (cond (eqb n 2) Sdys (cond (eqb n 3) Strs Sids))
+
+abbrev pub acceptorOf : ℕ → Acceptor
+acceptorOf n = cond (eqb n 1) Anrs (cond (eqb n 2) Acrs (cond (eqb n 3) Acds (cond (eqb n 4) Awns Aids)))
+
+abbrev pub serviceOf : ℕ → Service
+serviceOf n = cond (eqb n 1) Srqs (cond (eqb n 2) Aprs Nprs)
+
+-- A slot is full if its flag is on.
+abbrev pub slotOf : ℕ → ℕ → ℕ → Slot
+slotOf full v e = cond (flag full) (Full v (flag e)) Empty
+
+-- What stands is of the kind whose number is there, and nothing stands where no kind has it.
+abbrev pub byteOf : Kind → ℕ → ℕ → ℕ → Standing
+byteOf k s v e = Byte (place s) k v (flag e)
+
+abbrev pub standingOf : ℕ → ℕ → ℕ → ℕ → Standing
+standingOf tag s v e = cond (eqb tag 1) (byteOf Command s v e) (cond (eqb tag 2) (byteOf Data s v e) (cond (eqb tag 3) (byteOf Status s v e) Nothing))
+
+abbrev pub byteAt : List ℕ → ℕ → ℕ
+byteAt row k = getD row k 0
+
+abbrev pub partyOf : List ℕ → Party
+partyOf r = record {
+  role = record { address = address (byteAt r 0); talk = flag (byteAt r 1); listen = flag (byteAt r 2); poll = flag (byteAt r 3) };
+  control = controlOf (byteAt r 4);
+  source = sourceOf (byteAt r 5);
+  acceptor = acceptorOf (byteAt r 6);
+  held = slotOf (byteAt r 7) (byteAt r 8) (byteAt r 9);
+  input = slotOf (byteAt r 10) (byteAt r 11) (byteAt r 12);
+  request = record { live = byteAt r 13; saved = byteAt r 14; service = serviceOf (byteAt r 15) };
+}
+
+-- The bus with these parties, and the rest from the last row.
+abbrev pub busWith : List Party → List ℕ → Bus
+busWith ps r = record { parties = ps; count = byteAt r 0; system = place (byteAt r 1); standing = standingOf (byteAt r 2) (byteAt r 3) (byteAt r 4) (byteAt r 5) }
+
+unfoldable pub busOf : List (List ℕ) → Bus
+busOf rows = busWith (map partyOf (take 15 rows)) (getD rows 15 [])

@@ -1,0 +1,3 @@
+-- A bus as bytes. Image.antt says which byte stands where.
+pub mod Types
+pub mod Image

@@ -1,0 +1,154 @@
+// From rows to the bus that they say.
+ghost use mathlib.Core.Path.{_≡_};
+ghost use mathlib.Core.List.{map};
+ghost use lib.ListN.{take};
+ghost use Rattle.image.specs.Image.{flag, controlOf, sourceOf, acceptorOf, serviceOf, slotOf, byteOf, standingOf, partyOf, busWith, busOf};
+use bus::Bus;
+use effect::Standing;
+use message::Address;
+use party::Acceptor;
+use party::Control;
+use party::Kind;
+use party::Party;
+use party::Place;
+use party::Request;
+use party::Role;
+use party::Service;
+use party::Slot;
+use party::Source;
+
+fn flag(n: u8) -> bool
+    ensures { λ r. ⌜ r ≡ flag n ⌝ }
+{
+    n == 1
+}
+
+fn control_of(n: u8) -> Control
+    ensures { λ r. ⌜ r ≡ controlOf n ⌝ }
+{
+    match n {
+        1 => Control::Standby,
+        2 => Control::Active,
+        _ => Control::Idle,
+    }
+}
+
+fn source_of(n: u8) -> Source
+    ensures { λ r. ⌜ r ≡ sourceOf n ⌝ }
+{
+    match n {
+        1 => Source::Sgns,
+        2 => Source::Sdys,
+        3 => Source::Strs,
+        _ => Source::Sids,
+    }
+}
+
+fn acceptor_of(n: u8) -> Acceptor
+    ensures { λ r. ⌜ r ≡ acceptorOf n ⌝ }
+{
+    match n {
+        1 => Acceptor::Anrs,
+        2 => Acceptor::Acrs,
+        3 => Acceptor::Acds,
+        4 => Acceptor::Awns,
+        _ => Acceptor::Aids,
+    }
+}
+
+fn service_of(n: u8) -> Service
+    ensures { λ r. ⌜ r ≡ serviceOf n ⌝ }
+{
+    match n {
+        1 => Service::Srqs,
+        2 => Service::Aprs,
+        _ => Service::Nprs,
+    }
+}
+
+fn slot_of(full: u8, value: u8, end: u8) -> Slot
+    ensures { λ r. ⌜ r ≡ slotOf full value end ⌝ }
+{
+    match full {
+        1 => Slot::Full(value, flag(end)),
+        _ => Slot::Empty,
+    }
+}
+
+fn byte_of(kind: Kind, sender: u8, value: u8, end: u8) -> Standing
+    ensures { λ r. ⌜ r ≡ byteOf kind sender value end ⌝ }
+{
+    Standing::Byte {
+        sender: Place(sender),
+        kind,
+        value,
+        end: flag(end),
+    }
+}
+
+fn standing_of(tag: u8, sender: u8, value: u8, end: u8) -> Standing
+    ensures { λ r. ⌜ r ≡ standingOf tag sender value end ⌝ }
+{
+    match tag {
+        1 => byte_of(Kind::Command, sender, value, end),
+        2 => byte_of(Kind::Data, sender, value, end),
+        3 => byte_of(Kind::Status, sender, value, end),
+        _ => Standing::Nothing,
+    }
+}
+
+fn party_of(row: [u8; 16]) -> Party
+    ensures { λ r. ⌜ r ≡ partyOf row ⌝ }
+{
+    let role = Role {
+        address: Address(row[0]),
+        talk: flag(row[1]),
+        listen: flag(row[2]),
+        poll: flag(row[3]),
+    };
+    let request = Request {
+        live: row[13],
+        saved: row[14],
+        service: service_of(row[15]),
+    };
+    Party {
+        role,
+        control: control_of(row[4]),
+        source: source_of(row[5]),
+        acceptor: acceptor_of(row[6]),
+        held: slot_of(row[7], row[8], row[9]),
+        input: slot_of(row[10], row[11], row[12]),
+        request,
+    }
+}
+
+fn bus_with(parties: [Party; 15], row: [u8; 16]) -> Bus
+    ensures { λ r. ⌜ r ≡ busWith parties row ⌝ }
+{
+    Bus {
+        parties,
+        count: row[0],
+        system: Place(row[1]),
+        standing: standing_of(row[2], row[3], row[4], row[5]),
+    }
+}
+
+fn parties_of(rows: [[u8; 16]; 16]) -> [Party; 15]
+    ensures { λ r. ⌜ r ≡ map partyOf (take 15 rows) ⌝ }
+{
+    let mut out = [Party::IDLE; 15];
+    let mut k: usize = 0;
+    while k < 15 {
+        let p = party_of(rows[k]);
+        out[k] = p;
+        k = k + 1;
+    }
+    out
+}
+
+// Every content is read as some bus.
+pub fn bus_of(rows: [[u8; 16]; 16]) -> Bus
+    ensures { λ r. ⌜ r ≡ busOf rows ⌝ }
+{
+    bus_with(parties_of(rows), rows[15])
+}
