@@ -13,6 +13,7 @@ use Rattle.effect.specs.Words.{refusalNumber}
 use Rattle.bus.specs.declared.Bus.{Bus}
 use Rattle.bus.specs.declared.Answer.{Answer}
 use Rattle.bus.specs.Record.{refuse}
+use Rattle.image.specs.Image.{rowsOf}
 use Rattle.run.specs.Script.{orderOf, obey}
 use Rattle.run.specs.declared.Ran.{Ran}
 use Rattle.run.specs.declared.Ran.the-variants.{Wrote, NoRoom}
@@ -55,3 +56,8 @@ packed a = bytes (refusalNumber (a .refusal)) (eventNumber (a .event)) (a .byte)
 -- An operation by the number that it has in a script. Build, 0, takes a list of addresses and has a function of its own: here it is no operation.
 unfoldable pub answerTo : Bus → ℕ → ℕ → ℕ → ℕ → Answer
 answerTo b op party value extra = cond (eqb op 0) (refuse ruling.BadValue b) (obey b (orderOf op party value extra))
+
+-- A host has this answer: the number is the answer's, and the rows are those of the bus after it.
+pub record Answered (a : Answer) (after : List (List ℕ)) (n : ℕ) : Type 0 where
+  pub said : n ≡ packed a
+  pub rows : after ≡ rowsOf (a .bus)

@@ -4,6 +4,7 @@ ghost use Rattle.meskvorn.specs.Host.{countOf, RanTo};
 use run::Ran;
 
 pub mod calls;
+pub mod host;
 pub mod packing;
 
 // The number of bytes written; the largest number where there was no room.

@@ -1,0 +1,68 @@
+-- No operation changes the number of places.
+-- Assumes nothing.
+use Prim.Native.Nat.{ℕ, zero, suc}
+use mathlib.Core.Path.{_≡_, refl, ap}
+use mathlib.Core.Bool.{Bool, true, false, cond}
+use mathlib.Core.List.{List, [], _∷_}
+use lib.ListN.{length, length-set}
+use lib.Dec.{eqb}
+use Rattle.party.specs.declared.Place.{Place}
+use Rattle.parties.specs.Places.{otherTalker}
+use Rattle.parties.proofs.Places.{length-each}
+use Rattle.effect.specs.declared.Call.{Call}
+use Rattle.effect.specs.declared.Effect.{Effect}
+use Rattle.effect.specs.declared.After.{After}
+use Rattle.effect.specs.declared.After.the-variants as after
+use Rattle.effect.specs.declared.Refusal.the-variants as ruling
+use Rattle.effect.specs.Words.{isAccepted}
+use Rattle.effect.specs.Refusals.{placeOf}
+use Rattle.effect.specs.Effects.{effectOf}
+use Rattle.bus.specs.declared.Bus.{Bus}
+use Rattle.bus.specs.declared.Answer.{Answer}
+use Rattle.bus.specs.Record.{here, lines, placed, badBuild, built, noParties, refuse, build}
+use Rattle.bus.specs.Following.{followed}
+use Rattle.bus.specs.Machine.{call, refusal, accepted}
+use Rattle.run.specs.Script.{orderOf, obey, buildFrom, countUp}
+use Rattle.run.specs.declared.Order.{Order}
+use Rattle.run.specs.declared.Order.the-variants as order
+use Rattle.meskvorn.specs.Host.{answerTo}
+
+abbrev Full : Bus → Type 0
+Full b = length (b .parties) ≡ 15
+
+-- one of two answers
+either : (x : Bool) (a c : Answer) → Full (a .bus) → Full (c .bus) → Full (cond x a c .bus)
+either true a c h k = h
+either false a c h k = k
+
+placed-size : (n : ℕ) (xs : List ℕ) → length (placed n xs) ≡ n
+placed-size zero xs = refl
+placed-size (suc n) [] = ap suc (placed-size n [])
+placed-size (suc n) (a ∷ xs) = ap suc (placed-size n xs)
+
+pub build-size : (xs : List ℕ) (s : Place) → Full (build xs s .bus)
+build-size xs s = either (badBuild xs s) (refuse ruling.BadBuild noParties) (refuse ruling.Accepted (built xs s)) (placed-size 15 []) (placed-size 15 xs)
+
+followed-size : (x : After) (atn : Bool) (b : Bus) (i : ℕ) (e : Effect) → Full b → Full (followed x atn b i e .bus)
+followed-size after.Settle atn b i e h = simp (length-each, length-set) h
+followed-size (after.Pass j) atn b i e h = simp (length-each, length-set) h
+followed-size after.Attend atn b i e h = simp (length-each, length-set) h
+followed-size after.Clear atn b i e h = simp (length-each, length-set) h
+
+-- an accepted call, and one that may be refused
+call-size : (b : Bus) (c : Call) → Full b → Full (call b c .bus)
+call-size b c h =
+    let l = lines b in
+    let i = placeOf c .0 in
+    let e = effectOf l (otherTalker (b .count) i (b .parties)) (b .standing) (here b i) c in
+    either (isAccepted (refusal l b c)) (accepted l b c) (refuse (refusal l b c) b) (followed-size (e .after) (l .atn) b i e h) h
+
+obey-size : (b : Bus) (o : Order) → Full b → Full (obey b o .bus)
+unfolding obey buildFrom
+obey-size b (order.Build s n first) h = build-size (countUp n first) s
+obey-size b (order.Call c) h = call-size b c h
+obey-size b order.Unknown h = h
+
+pub answer-size : (b : Bus) (op party value extra : ℕ) → Full b → Full (answerTo b op party value extra .bus)
+unfolding answerTo
+answer-size b op party value extra h = either (eqb op 0) (refuse ruling.BadValue b) (obey b (orderOf op party value extra)) h (obey-size b (orderOf op party value extra) h)
