@@ -178,12 +178,13 @@ fn comparison_reads_the_text_too() {
 }
 
 type AlterBuild = fn(&[u8], u8) -> (Vec<u8>, u8);
+type AlterCall = fn(Call) -> Call;
 
 /// Runs scripts well, and alters its builds or its calls before it answers them.
 struct WrongByNumber {
     model: ModelSubject,
     build: AlterBuild,
-    call: fn(Call) -> Call,
+    call: AlterCall,
 }
 
 impl Subject for WrongByNumber {
@@ -223,7 +224,7 @@ fn zero_is_lines(call: Call) -> Call {
 #[test]
 fn comparison_catches_wrong_builds_and_wrong_numbers() {
     let same = |addresses: &[u8], system| (addresses.to_vec(), system);
-    let wrong: [(AlterBuild, fn(Call) -> Call); 4] = [
+    let wrong: [(AlterBuild, AlterCall); 4] = [
         (sorted, |call| call),
         (shortened, |call| call),
         (|addresses, _| (addresses.to_vec(), 0), |call| call),
