@@ -1,17 +1,21 @@
-//! Records per second of the proved library and of the model, in one run and on the same scripts.
+//! Records per second of the proved library and of the model, and calls per second of the library's
+//! single calls, in one run and on the same scripts.
 
 use std::hint::black_box;
 use std::time::{Duration, Instant};
 
+use meskvorn::Bus;
+
 use crate::product::Product;
 use crate::script::{
-    self, record, Record, BUILD, LISTEN, LONGEST, READ, RECORD, STEP, TALK, WRITE,
+    self, record, Call, Record, BUILD, LISTEN, LONGEST, READ, RECORD, STEP, TALK, WRITE,
 };
 use crate::subject::Subject;
 
 /// What a real bus carries.
 const REAL_BYTES_PER_SECOND: f64 = 1_000_000.0;
 
+const FIRST_ADDRESS: u8 = 1;
 const LEAST: Duration = Duration::from_millis(300);
 const ROUNDS: usize = 5;
 
@@ -30,7 +34,7 @@ fn byte_of(parties: u8, value: u8) -> Vec<Record> {
 }
 
 fn traffic(parties: u8) -> Traffic {
-    let mut script = record(BUILD, 0, parties, 1).to_vec();
+    let mut script = record(BUILD, 0, parties, FIRST_ADDRESS).to_vec();
     script.extend(record(TALK, 0, 1, 0));
     script.extend((1..parties).flat_map(|party| record(LISTEN, party, 1, 0)));
     let mut bytes = 0;
@@ -41,6 +45,21 @@ fn traffic(parties: u8) -> Traffic {
         }
         script.extend(next);
         bytes += 1;
+    }
+}
+
+/// The script's records after its build, each as a call.
+fn calls_of(script: &[u8]) -> Vec<Call> {
+    let records = script.chunks_exact(RECORD).skip(1);
+    records.map(|record| [record[2], record[3], record[4], record[5]]).collect()
+}
+
+/// The build and the calls of the traffic, one by one.
+fn call_by_call(parties: u8, calls: &[Call]) {
+    let addresses: Vec<u8> = (FIRST_ADDRESS..).take(parties.into()).collect();
+    let (mut bus, _) = Bus::build(&addresses, 0);
+    for &[operation, party, value, extra] in calls {
+        black_box(bus.call(operation, party, value, extra));
     }
 }
 
@@ -67,9 +86,11 @@ fn row(traffic: &Traffic) {
     let mut product = Product::default();
     let proved = fastest(|out| product.run_script(&traffic.script, out));
     let model = fastest(|out| script::run(&traffic.script, out));
+    let calls = calls_of(&traffic.script);
+    let single = fastest(|_| call_by_call(traffic.parties, &calls));
     let bytes = traffic.bytes as f64;
     println!(
-        "| {} | {:.0} | {:.1} | {:.1} | {:.2} | {:.0} | {:.0} % |",
+        "| {} | {:.0} | {:.1} | {:.1} | {:.2} | {:.0} | {:.0} % | {:.1} |",
         traffic.parties,
         records / bytes,
         records / proved / 1e6,
@@ -77,13 +98,14 @@ fn row(traffic: &Traffic) {
         proved / model,
         bytes / proved,
         100.0 * bytes / proved / REAL_BYTES_PER_SECOND,
+        records / single / 1e6,
     );
 }
 
 /// Prints the table.
 pub fn run() {
-    println!("| parties | calls a byte | library, million records a second | model, the same | time against the model | bytes a second | of a real bus |");
-    println!("|---|---|---|---|---|---|---|");
+    println!("| parties | calls a byte | library, million records a second | model, the same | time against the model | bytes a second | of a real bus | single calls, million a second |");
+    println!("|---|---|---|---|---|---|---|---|");
     for parties in [2, 5, 15] {
         row(&traffic(parties));
     }
