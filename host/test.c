@@ -39,13 +39,10 @@ static void check_at(int line, int holds, const char *what)
 
 static int filled(const uint8_t *bytes, size_t count)
 {
-    size_t at;
-    for (at = 0; at < count; at++) {
-        if (bytes[at] != FILL) {
-            return 0;
-        }
+    while (count > 0 && bytes[count - 1] == FILL) {
+        count--;
     }
-    return 1;
+    return count == 0;
 }
 
 /* An event without a byte has the byte 0. */
@@ -206,25 +203,28 @@ static void p8_p9_and_builds(void)
     EXPECT(REFUSED(2), meskvorn_bus_build(bus, NULL, 0, 0));
 }
 
-/* The active party 0 sends a command to its end; party 1, which has to be in ANRS, hears it. */
-static void command(uint8_t byte, const char *put, const char *heard, const char *ended)
+/* What is expected with a byte that comes without END. */
+static const char *with_byte(const char *event, uint8_t byte)
+{
+    static char text[64];
+    snprintf(text, sizeof text, "0 %s %02x 0 0 0", event, byte);
+    return text;
+}
+
+/* The active party 0 sends a command; party 1 takes it with the event given. The answer is that to its end. */
+static meskvorn_answer command(uint8_t byte, const char *heard)
 {
     EXPECT(NONE, meskvorn_bus_write(bus, 0, byte, 0));
     EXPECT(MOVED, meskvorn_bus_step(bus, 0));
-    EXPECT(MOVED, meskvorn_bus_step(bus, 1));
-    EXPECT(put, meskvorn_bus_step(bus, 0));
+    /* From ANRS or AWNS to ACRS. */
+    meskvorn_bus_step(bus, 1);
+    meskvorn_bus_step(bus, 1);
+    EXPECT(with_byte("cmd", byte), meskvorn_bus_step(bus, 0));
     EXPECT(REFUSED(7), meskvorn_bus_go_to_standby(bus, 0));
     EXPECT(REFUSED(7), meskvorn_bus_reset(bus, 0));
-    EXPECT(heard, meskvorn_bus_step(bus, 1));
+    EXPECT(with_byte(heard, byte), meskvorn_bus_step(bus, 1));
     EXPECT(MOVED, meskvorn_bus_step(bus, 1));
-    EXPECT(ended, meskvorn_bus_step(bus, 0));
-}
-
-/* Party 1 is still in AWNS. */
-static void next_command(uint8_t byte, const char *put, const char *heard, const char *ended)
-{
-    EXPECT(MOVED, meskvorn_bus_step(bus, 1));
-    command(byte, put, heard, ended);
+    return meskvorn_bus_step(bus, 0);
 }
 
 static void p10_and_p11_commands(void)
@@ -233,43 +233,37 @@ static void p10_and_p11_commands(void)
     EXPECT(NONE, meskvorn_bus_build(bus, from_4, 2, 0));
     EXPECT(NONE, meskvorn_bus_interface_clear(bus, 0));
     EXPECT(REFUSED(5), meskvorn_bus_talk_only(bus, 0, 1));
-    command(0x25, "0 cmd 25 0 0 0", "0 heard 25 0 0 0", "0 ended 25 0 0 0");
-    next_command(0x04, "0 cmd 04 0 0 0", "0 clear 04 0 0 0", "0 ended 04 0 0 0");
-    next_command(0x08, "0 cmd 08 0 0 0", "0 trigger 08 0 0 0", "0 ended 08 0 0 0");
-    next_command(0xc5, "0 cmd c5 0 0 0", "0 heard c5 0 0 0", "0 ended c5 0 0 0");
+    EXPECT("0 ended 25 0 0 0", command(0x25, "heard"));
+    EXPECT("0 ended 04 0 0 0", command(0x04, "clear"));
+    EXPECT("0 ended 08 0 0 0", command(0x08, "trigger"));
+    EXPECT("0 ended c5 0 0 0", command(0xc5, "heard"));
     EXPECT(REFUSED(4), meskvorn_bus_listen_only(bus, 1, 1));
     EXPECT(NONE, meskvorn_bus_write(bus, 1, 0x77, 0));
-    next_command(0x09, "0 cmd 09 0 0 0", "0 heard 09 0 0 0", "0 passed 09 0 1 0");
+    EXPECT("0 passed 09 0 1 0", command(0x09, "heard"));
     EXPECT(REFUSED(4), meskvorn_bus_go_to_standby(bus, 0));
     EXPECT(NONE, meskvorn_bus_go_to_standby(bus, 1));
     EXPECT(REFUSED(6), meskvorn_bus_talk_only(bus, 0, 1));
 }
 
-/* Party 0 polls party 1; lines are those before the poll, and stat to read the answers to the status byte. */
-static void poll(uint8_t value, const char *lines, const char *stat, const char *took, const char *ended, const char *read)
+/* Party 0 polls party 1, whose register is given; lines are those before the poll. */
+static void p12_poll(uint8_t value, uint8_t lines)
 {
     build(2);
     EXPECT(NONE, meskvorn_bus_poll_register(bus, 1, value));
-    EXPECT(lines, meskvorn_bus_lines(bus));
+    EXPECT(with_byte("lines", lines), meskvorn_bus_lines(bus));
     EXPECT(NONE, meskvorn_bus_interface_clear(bus, 0));
     EXPECT(NONE, meskvorn_bus_listen_only(bus, 0, 1));
-    command(0x18, "0 cmd 18 0 0 0", "0 heard 18 0 0 0", "0 ended 18 0 0 0");
-    next_command(0x46, "0 cmd 46 0 0 0", "0 heard 46 0 0 0", "0 ended 46 0 0 0");
+    EXPECT("0 ended 18 0 0 0", command(0x18, "heard"));
+    EXPECT("0 ended 46 0 0 0", command(0x46, "heard"));
     EXPECT(NONE, meskvorn_bus_go_to_standby(bus, 0));
     EXPECT("0 lines 30 0 0 0", meskvorn_bus_lines(bus));
     EXPECT(MOVED, meskvorn_bus_step(bus, 1));
     EXPECT(MOVED, meskvorn_bus_step(bus, 0));
-    EXPECT(stat, meskvorn_bus_step(bus, 1));
-    EXPECT(took, meskvorn_bus_step(bus, 0));
+    EXPECT(with_byte("stat", value), meskvorn_bus_step(bus, 1));
+    EXPECT(with_byte("took", value), meskvorn_bus_step(bus, 0));
     EXPECT(MOVED, meskvorn_bus_step(bus, 0));
-    EXPECT(ended, meskvorn_bus_step(bus, 1));
-    EXPECT(read, meskvorn_bus_read(bus, 0));
-}
-
-static void p12_poll(void)
-{
-    poll(0x41, "0 lines 04 0 0 0", "0 stat 41 0 0 0", "0 took 41 0 0 0", "0 ended 41 0 0 0", "0 read 41 0 0 0");
-    poll(0x01, "0 lines 00 0 0 0", "0 stat 01 0 0 0", "0 took 01 0 0 0", "0 ended 01 0 0 0", "0 read 01 0 0 0");
+    EXPECT(with_byte("ended", value), meskvorn_bus_step(bus, 1));
+    EXPECT(with_byte("read", value), meskvorn_bus_read(bus, 0));
 }
 
 static void reset_and_full(void)
@@ -367,10 +361,12 @@ static void any_content(void)
     for (content = 0; content < 256; content++) {
         uint8_t operation;
         for (operation = MESKVORN_OPERATION_STEP; operation <= MESKVORN_OPERATION_LINES; operation++) {
+            uint64_t packed;
             meskvorn_answer answer;
             memset(bus, content, sizeof *bus);
-            answer = meskvorn_bus_call(bus, operation, (uint8_t)(content % 16), 1, 1);
-            CHECK(answer.refusal < MESKVORN_REFUSAL_RECORD && answer.event <= MESKVORN_EVENT_LINES && answer.end <= 1);
+            packed = meskvorn_call(bus->rows, operation, (uint8_t)(content % 16), 1, 1);
+            answer = meskvorn_answer_of(packed);
+            CHECK(answer.refusal < MESKVORN_REFUSAL_RECORD && answer.event <= MESKVORN_EVENT_LINES && answer.end <= 1 && packed >> 48 == 0);
             CHECK(filled(memory.before, GUARD) && filled(memory.after, GUARD));
         }
         p1_and_p2();
@@ -388,7 +384,8 @@ int main(void)
     p7_no_listener();
     p8_p9_and_builds();
     p10_and_p11_commands();
-    p12_poll();
+    p12_poll(0x41, MESKVORN_LINE_SRQ);
+    p12_poll(0x01, 0);
     reset_and_full();
     parties_and_values();
     null_pointers();
