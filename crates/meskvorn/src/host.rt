@@ -15,8 +15,8 @@ pub extern "C" fn meskvorn_build(bus: &mut [[u8; 16]; 16], addresses: &[u8], sys
     ensures { λ r. ⌜ Answered (build (now (addresses .entry)) (place system)) (now (bus .exit)) r ⌝ }
 {
     let a = built(addresses, system);
-    let next = a.bus;
-    *bus = rows_of(next);
+    let fresh = a.bus;
+    *bus = rows_of(fresh);
     packed(a)
 }
 
@@ -32,7 +32,8 @@ pub extern "C" fn meskvorn_call(
     ensures { λ r. ⌜ Answered (answerTo (busOf (now (bus .entry))) op party value extra) (now (bus .exit)) r ⌝ }
 {
     let rows = *bus;
-    let a = answer_to(bus_of(rows), op, party, value, extra);
+    let before = bus_of(rows);
+    let a = answer_to(before, op, party, value, extra);
     let next = a.bus;
     *bus = rows_of(next);
     packed(a)

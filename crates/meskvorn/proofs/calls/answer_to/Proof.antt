@@ -1,5 +1,7 @@
+use mathlib.Core.Path.{ap, _∙_}
 use borrow.Author.Needs.{needs}
 use borrow.Author.Tests.{eq-eqb, ne-eqb}
+use Rattle.run.specs.Script.{obey}
 use Rattle.meskvorn.specs.Host.{answerTo}
 use Rattle.meskvorn.proofs.calls.answer_to.Statement.{statement}
 use Rattle.meskvorn.proofs.calls.answer_to.Tie as tie
@@ -19,7 +21,7 @@ obey-requires c κs = search needs
 
 returns-2 : tie.Need-returns-2
 unfolding answerTo
-returns-2 c = rw (ne-eqb _ _ (c .before .before .if1 .left), ← (c .before .order-of .ensures)) (c .obey .ensures)
+returns-2 c = rw (ne-eqb _ _ (c .before .before .if1 .left)) (c .obey .ensures ∙ ap (obey (c .before .before .before .args .b)) (c .before .order-of .ensures))
 
 pub answer-to-spec : {M : Type 1} → statement M
 answer-to-spec =
