@@ -30,7 +30,10 @@ struct Traffic {
 fn byte_of(parties: u8, value: u8) -> Vec<Record> {
     let turns = (0..4).flat_map(|_| (0..parties).map(|party| record(STEP, party, 0, 0)));
     let reads = (1..parties).map(|party| record(READ, party, 0, 0));
-    std::iter::once(record(WRITE, 0, value, 0)).chain(turns).chain(reads).collect()
+    std::iter::once(record(WRITE, 0, value, 0))
+        .chain(turns)
+        .chain(reads)
+        .collect()
 }
 
 fn traffic(parties: u8) -> Traffic {
@@ -41,7 +44,11 @@ fn traffic(parties: u8) -> Traffic {
     loop {
         let next = byte_of(parties, bytes as u8).concat();
         if script.len() + next.len() > LONGEST {
-            return Traffic { parties, script, bytes };
+            return Traffic {
+                parties,
+                script,
+                bytes,
+            };
         }
         script.extend(next);
         bytes += 1;
@@ -51,7 +58,9 @@ fn traffic(parties: u8) -> Traffic {
 /// The script's records after its build, each as a call.
 fn calls_of(script: &[u8]) -> Vec<Call> {
     let records = script.chunks_exact(RECORD).skip(1);
-    records.map(|record| [record[2], record[3], record[4], record[5]]).collect()
+    records
+        .map(|record| [record[2], record[3], record[4], record[5]])
+        .collect()
 }
 
 /// The build and the calls of the traffic, one by one.

@@ -83,8 +83,17 @@ impl Pair<'_> {
     fn any_calls(&mut self, random: &mut Random) -> Done {
         for _ in 0..CALLS_AFTER {
             let known = 1 + random.below(12) as u8;
-            let operation = if random.per_mille(900) { known } else { random.byte() };
-            self.call([operation, random.field(16), random.field(2), random.field(2)])?;
+            let operation = if random.per_mille(900) {
+                known
+            } else {
+                random.byte()
+            };
+            self.call([
+                operation,
+                random.field(16),
+                random.field(2),
+                random.field(2),
+            ])?;
         }
         Ok(())
     }

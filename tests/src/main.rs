@@ -9,8 +9,8 @@ use std::process::ExitCode;
 use std::sync::atomic::{AtomicBool, Ordering};
 
 use meskvorn_tests::bench;
-use meskvorn_tests::run;
 use meskvorn_tests::product::Product;
+use meskvorn_tests::run;
 use meskvorn_tests::subject::Subject;
 
 const SEED: u64 = 488;

@@ -52,10 +52,14 @@ pub fn call(bus: &mut Bus, [operation, party, value, extra]: Call) -> meskvorn::
 impl Subject for Product {
     fn run_script(&mut self, script: &[u8], out: &mut Vec<u8>) {
         self.buffer.clear();
-        self.buffer.resize(LINE * script.len().div_ceil(RECORD).max(1), UNTOUCHED);
+        self.buffer
+            .resize(LINE * script.len().div_ceil(RECORD).max(1), UNTOUCHED);
         let written = meskvorn::run(script, &mut self.buffer).expect("34 bytes for each record");
         let (text, rest) = self.buffer.split_at(written);
-        assert!(rest.iter().all(|&byte| byte == UNTOUCHED), "text past its end");
+        assert!(
+            rest.iter().all(|&byte| byte == UNTOUCHED),
+            "text past its end"
+        );
         out.extend_from_slice(text);
     }
 

@@ -59,7 +59,10 @@ pub fn random_run(subject: &mut dyn Subject, seed: u64, records: u64) -> bool {
             return false;
         }
     };
-    println!("address lists: {} accepted, {} refused", lists.accepted, lists.refused);
+    println!(
+        "address lists: {} accepted, {} refused",
+        lists.accepted, lists.refused
+    );
     let mut comparison = Comparison::new(subject);
     let kinds = match all_parts(&mut comparison, seed, records) {
         Ok(kinds) => kinds,

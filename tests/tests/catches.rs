@@ -231,8 +231,15 @@ fn comparison_catches_wrong_builds_and_wrong_numbers() {
         (same, zero_is_lines),
     ];
     for (place, (build, call)) in wrong.into_iter().enumerate() {
-        let mut subject = WrongByNumber { model: ModelSubject::default(), build, call };
-        assert!(builds::run(&mut subject, 5).is_err(), "wrong subject {place}");
+        let mut subject = WrongByNumber {
+            model: ModelSubject::default(),
+            build,
+            call,
+        };
+        assert!(
+            builds::run(&mut subject, 5).is_err(),
+            "wrong subject {place}"
+        );
     }
 }
 

@@ -15,7 +15,11 @@ fn print(what: &str, answer: Answer) -> Result<Event, String> {
     }
     print!("{what}: {}", answer.event.word());
     if answer.event.has_byte() {
-        print!(" {:02x}{}", answer.byte, if answer.end { " END" } else { "" });
+        print!(
+            " {:02x}{}",
+            answer.byte,
+            if answer.end { " END" } else { "" }
+        );
     }
     println!();
     Ok(answer.event)

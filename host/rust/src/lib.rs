@@ -44,7 +44,9 @@ impl Default for Bus {
 impl Bus {
     /// Party i gets `addresses[i]`; `system` is the system party. A refused build gives the bus of no parties.
     pub fn build(addresses: &[u8], system: u8) -> (Bus, Answer) {
-        let mut bus = Bus { rows: [[0; 16]; 16] };
+        let mut bus = Bus {
+            rows: [[0; 16]; 16],
+        };
         let answer = bus.rebuild(addresses, system);
         (bus, answer)
     }
@@ -52,7 +54,14 @@ impl Bus {
     /// The same over a bus that is there.
     pub fn rebuild(&mut self, addresses: &[u8], system: u8) -> Answer {
         // The rows are this bus's own, and the addresses are lent for the call, with the length that they have.
-        let packed = unsafe { meskvorn_build(self.rows.as_mut_ptr(), addresses.as_ptr(), addresses.len(), system) };
+        let packed = unsafe {
+            meskvorn_build(
+                self.rows.as_mut_ptr(),
+                addresses.as_ptr(),
+                addresses.len(),
+                system,
+            )
+        };
         Answer::of(packed)
     }
 
@@ -126,6 +135,7 @@ impl Bus {
 /// written; None if there was no room, and then nothing is written.
 pub fn run(script: &[u8], out: &mut [u8]) -> Option<usize> {
     // Both slices are lent for the call alone, with the lengths that they have.
-    let written = unsafe { meskvorn_run(script.as_ptr(), script.len(), out.as_mut_ptr(), out.len()) };
+    let written =
+        unsafe { meskvorn_run(script.as_ptr(), script.len(), out.as_mut_ptr(), out.len()) };
     (written != usize::MAX).then_some(written)
 }

@@ -6,7 +6,14 @@ const NONE: Answer = accepted(Event::None, 0, false);
 const MOVED: Answer = accepted(Event::Moved, 0, false);
 
 const fn accepted(event: Event, byte: u8, end: bool) -> Answer {
-    Answer { refusal: Refusal::Accepted, event, byte, end, dropped: 0, broken: 0 }
+    Answer {
+        refusal: Refusal::Accepted,
+        event,
+        byte,
+        end,
+        dropped: 0,
+        broken: 0,
+    }
 }
 
 fn refused(refusal: Refusal) -> Answer {
@@ -76,7 +83,13 @@ fn p7_no_listener_drops_the_byte() {
     assert_eq!(bus.write(0, 0x41, true), NONE);
     assert_eq!(bus.write(0, 0x42, true), refused(Refusal::Full));
     assert_eq!(bus.step(0), MOVED);
-    assert_eq!(bus.step(0), Answer { dropped: 1, ..accepted(Event::Noacc, 0x41, true) });
+    assert_eq!(
+        bus.step(0),
+        Answer {
+            dropped: 1,
+            ..accepted(Event::Noacc, 0x41, true)
+        }
+    );
     assert_eq!(bus.write(0, 0x42, true), NONE);
     assert_eq!(bus.drop_byte(0), Answer { dropped: 1, ..NONE });
 }
@@ -90,7 +103,13 @@ fn p8_and_p9_builds() {
     assert_eq!(bus.interface_clear(14), NONE);
     assert_eq!(bus.step(15), refused(Refusal::NoParty));
     assert_eq!(Bus::build(&[30, 0], 0).1, NONE);
-    for (addresses, system) in [(&addresses[..], 0), (&[31], 0), (&[7, 2, 7], 0), (&[5, 6], 2), (&[], 0)] {
+    for (addresses, system) in [
+        (&addresses[..], 0),
+        (&[31], 0),
+        (&[7, 2, 7], 0),
+        (&[5, 6], 2),
+        (&[], 0),
+    ] {
         let (mut bus, answer) = Bus::build(addresses, system);
         assert_eq!(answer, refused(Refusal::BadBuild), "{addresses:?}");
         assert_eq!(bus.step(0), refused(Refusal::NoParty));
@@ -114,12 +133,23 @@ fn p10_p11_commands_and_control_that_passes() {
     let (mut bus, _) = Bus::build(&[4, 5], 0);
     assert_eq!(bus.interface_clear(0), NONE);
     assert_eq!(bus.talk_only(0, true), refused(Refusal::Attention));
-    for (byte, heard) in [(0x25, Event::Heard), (0x04, Event::Clear), (0x08, Event::Trigger), (0xc5, Event::Heard)] {
-        assert_eq!(command(&mut bus, byte, heard), accepted(Event::Ended, byte, false));
+    for (byte, heard) in [
+        (0x25, Event::Heard),
+        (0x04, Event::Clear),
+        (0x08, Event::Trigger),
+        (0xc5, Event::Heard),
+    ] {
+        assert_eq!(
+            command(&mut bus, byte, heard),
+            accepted(Event::Ended, byte, false)
+        );
     }
     assert_eq!(bus.listen_only(1, true), refused(Refusal::Role));
     assert_eq!(bus.write(1, 0x77, false), NONE);
-    let passed = Answer { dropped: 1, ..accepted(Event::Passed, 0x09, false) };
+    let passed = Answer {
+        dropped: 1,
+        ..accepted(Event::Passed, 0x09, false)
+    };
     assert_eq!(command(&mut bus, 0x09, Event::Heard), passed);
     assert_eq!(bus.go_to_standby(1), NONE);
     assert_eq!(bus.talk_only(0, true), refused(Refusal::Talker));
@@ -137,7 +167,10 @@ fn p12_status_bytes() {
         assert_eq!(bus.interface_clear(0), NONE);
         assert_eq!(bus.listen_only(0, true), NONE);
         for byte in [0x18, 0x46] {
-            assert_eq!(command(&mut bus, byte, Event::Heard), accepted(Event::Ended, byte, false));
+            assert_eq!(
+                command(&mut bus, byte, Event::Heard),
+                accepted(Event::Ended, byte, false)
+            );
         }
         assert_eq!(bus.go_to_standby(0), NONE);
         assert_eq!(bus.step(1), MOVED);
@@ -152,15 +185,29 @@ fn p12_status_bytes() {
 fn unknown_operations_and_values_are_refused() {
     let mut bus = built(2);
     for operation in (13..=255).chain([0]) {
-        assert_eq!(bus.call(operation, 2, 0, 0), refused(Refusal::BadValue), "{operation}");
+        assert_eq!(
+            bus.call(operation, 2, 0, 0),
+            refused(Refusal::BadValue),
+            "{operation}"
+        );
     }
     for operation in 1..12 {
-        assert_eq!(bus.call(operation, 2, 2, 2), refused(Refusal::NoParty), "{operation}");
+        assert_eq!(
+            bus.call(operation, 2, 2, 2),
+            refused(Refusal::NoParty),
+            "{operation}"
+        );
     }
     for (operation, value, extra) in [(2, 0, 2), (5, 2, 0), (6, 255, 0)] {
-        assert_eq!(bus.call(operation, 0, value, extra), refused(Refusal::BadValue));
+        assert_eq!(
+            bus.call(operation, 0, value, extra),
+            refused(Refusal::BadValue)
+        );
     }
-    assert_eq!(bus.call(12, 255, 255, 255), accepted(Event::Lines, 0, false));
+    assert_eq!(
+        bus.call(12, 255, 255, 255),
+        accepted(Event::Lines, 0, false)
+    );
 }
 
 #[test]

@@ -17,12 +17,16 @@ const WORKED: [[u8; 4]; 12] = [
     [3, 1, 0, 0],
 ];
 
-const WORKED_TEXT: &str = "1 0 none -- 0 0 0\n2 0 none -- 0 0 0\n3 0 none -- 0 0 0\n4 0 none -- 0 0 0\n\
+const WORKED_TEXT: &str =
+    "1 0 none -- 0 0 0\n2 0 none -- 0 0 0\n3 0 none -- 0 0 0\n4 0 none -- 0 0 0\n\
     5 0 moved -- 0 0 0\n6 0 moved -- 0 0 0\n7 0 data 41 1 0 0\n8 0 took 41 1 0 0\n\
     9 0 none -- 0 0 0\n10 0 moved -- 0 0 0\n11 0 ended 41 1 0 0\n12 0 read 41 1 0 0\n";
 
 fn worked() -> Vec<u8> {
-    WORKED.iter().flat_map(|call| [&[0x47, 0x42], &call[..]].concat()).collect()
+    WORKED
+        .iter()
+        .flat_map(|call| [&[0x47, 0x42], &call[..]].concat())
+        .collect()
 }
 
 #[test]
