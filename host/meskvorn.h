@@ -12,7 +12,7 @@
 extern "C" {
 #endif
 
-/* A bus, in memory of the program's own, which may be copied and moved. Build it before the first call: any other content is read as some bus too. */
+/* A bus, in memory of the program's own, which may be copied and moved. Zeros are the bus of no parties; any content is read as some bus. */
 typedef struct meskvorn_bus {
     uint8_t rows[16][16];
 } meskvorn_bus;

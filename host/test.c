@@ -357,6 +357,7 @@ static void scripts(void)
 /* Whatever the memory held, a call keeps to it and answers in document 01's range, and a build is as any other. */
 static void any_content(void)
 {
+    static meskvorn_bus no_parties;
     int content;
     for (content = 0; content < 256; content++) {
         uint8_t operation;
@@ -369,6 +370,9 @@ static void any_content(void)
             CHECK(answer.refusal < MESKVORN_REFUSAL_RECORD && answer.event <= MESKVORN_EVENT_LINES && answer.end <= 1 && packed >> 48 == 0);
             CHECK(filled(memory.before, GUARD) && filled(memory.after, GUARD));
         }
+        EXPECT(REFUSED(2), meskvorn_bus_build(bus, addresses, 16, 0));
+        CHECK(memcmp(bus, &no_parties, sizeof *bus) == 0);
+        memset(bus, content, sizeof *bus);
         p1_and_p2();
     }
 }
