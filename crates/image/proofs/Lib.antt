@@ -1,3 +1,4 @@
--- The laws of the loops, and what is read back.
+-- The laws of rows and of the loops, and what is read back.
+pub mod Rows
 pub mod Loops
 pub mod Kept

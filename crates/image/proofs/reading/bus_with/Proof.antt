@@ -1,4 +1,5 @@
 use borrow.Author.Needs.{needs}
+use Rattle.image.proofs.Rows.{bus-by-parts}
 use Rattle.image.proofs.reading.bus_with.Statement.{statement}
 use Rattle.image.proofs.reading.bus_with.Tie as tie
 
@@ -25,7 +26,8 @@ standing-of-requires c κs = search needs
 
 returns : tie.Need-returns
 returns c =
-    simp (c .standing-of .ensures)
+    let x = c .before .args in
+    bus-by-parts (x .parties) (x .t2) (c .standing-of .ensures)
 
 pub bus-with-spec : {M : Type 1} → statement M
 bus-with-spec =

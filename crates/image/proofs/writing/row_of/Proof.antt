@@ -1,4 +1,7 @@
+use mathlib.Core.Path.{ap, _∙_}
 use borrow.Author.Needs.{needs}
+use Rattle.party.specs.Parts.{one}
+use Rattle.image.proofs.Rows.{row-by-parts}
 use Rattle.image.proofs.writing.row_of.Statement.{statement}
 use Rattle.image.proofs.writing.row_of.Tie as tie
 
@@ -55,25 +58,22 @@ service-number-requires c κs = search needs
 
 returns : tie.Need-returns
 returns c =
-    simp (
-      c .service-number .ensures,
-      c .before .one7 .ensures .0,
-      c .before .before .slot-end2 .ensures,
-      c .before .before .before .slot-value2 .ensures,
-      c .before .before .before .before .one6 .ensures .0,
-      c .before .before .before .before .before .is-full2 .ensures,
-      c .before .before .before .before .before .before .one5 .ensures .0,
-      c .before .before .before .before .before .before .before .slot-end .ensures,
-      c .before .before .before .before .before .before .before .before .slot-value .ensures,
-      c .before .before .before .before .before .before .before .before .before .one4 .ensures .0,
-      c .before .before .before .before .before .before .before .before .before .before .is-full .ensures,
-      c .before .before .before .before .before .before .before .before .before .before .before .acceptor-number .ensures,
-      c .before .before .before .before .before .before .before .before .before .before .before .before .source-number .ensures,
-      c .before .before .before .before .before .before .before .before .before .before .before .before .before .control-number .ensures,
-      c .before .before .before .before .before .before .before .before .before .before .before .before .before .before .one3 .ensures .0,
-      c .before .before .before .before .before .before .before .before .before .before .before .before .before .before .before .one2 .ensures .0,
-      c .before .before .before .before .before .before .before .before .before .before .before .before .before .before .before .before .one .ensures .0,
-    )
+    let h = c .before .before .before .before .before .before in
+    let k = h .before .before .before .before .before in
+    row-by-parts (k .before .before .before .before .before .before .before .before .before .args .p)
+    (k .before .before .before .before .before .one .ensures .0)
+    (k .before .before .before .before .one2 .ensures .0)
+    (k .before .before .before .one3 .ensures .0)
+    (k .before .before .control-number .ensures)
+    (k .before .source-number .ensures)
+    (k .acceptor-number .ensures)
+    (h .before .before .before .one4 .ensures .0 ∙ ap one (h .before .before .before .before .is-full .ensures))
+    (h .before .before .slot-value .ensures)
+    (h .one5 .ensures .0 ∙ ap one (h .before .slot-end .ensures))
+    (c .before .before .before .before .one6 .ensures .0 ∙ ap one (c .before .before .before .before .before .is-full2 .ensures))
+    (c .before .before .before .slot-value2 .ensures)
+    (c .before .one7 .ensures .0 ∙ ap one (c .before .before .slot-end2 .ensures))
+    (c .service-number .ensures)
 
 pub row-of-spec : {M : Type 1} → statement M
 row-of-spec =
