@@ -1,29 +1,10 @@
 // An answer as a number, which every host language takes.
 ghost use mathlib.Core.Path.{_≡_};
-ghost use Rattle.effect.specs.Words.{refusalNumber};
 ghost use Rattle.meskvorn.specs.Host.{eventNumber, bytes, packed};
 use bus::Answer;
-use effect::Refusal;
 use party::Event;
 use party::clearing::one;
-
-fn refusal_number(r: Refusal) -> u8
-    ensures { λ n. ⌜ n ≡ refusalNumber r ⌝ }
-{
-    match r {
-        Refusal::Accepted => 0,
-        Refusal::NoParty => 1,
-        Refusal::BadBuild => 2,
-        Refusal::BadValue => 3,
-        Refusal::Role => 4,
-        Refusal::Attention => 5,
-        Refusal::Talker => 6,
-        Refusal::Standing => 7,
-        Refusal::Full => 8,
-        Refusal::Empty => 9,
-        Refusal::Record => 10,
-    }
-}
+use text::refusal_number;
 
 fn event_number(e: Event) -> u8
     ensures { λ n. ⌜ n ≡ eventNumber e ⌝ }

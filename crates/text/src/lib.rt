@@ -157,7 +157,7 @@ fn put_byte(has: bool, b: u8, out: &mut [u8], at: usize) -> usize
 }
 
 // The number of a refusal, 0 for an accepted call.
-fn refusal_number(r: Refusal) -> usize
+pub fn refusal_number(r: Refusal) -> u8
     ensures { λ n. ⌜ n ≡ refusalNumber r ⌝ }
 {
     match r {
@@ -187,7 +187,7 @@ fn put_head(n: usize, r: Refusal, out: &mut [u8], at: usize) -> usize
     ensures { λ q. ⌜ Wrote (now (out .entry)) at (headText n r) (now (out .exit)) q ⌝ }
 {
     let p = put_number(n, b' ', out, at);
-    put_number(refusal_number(r), b' ', out, p)
+    put_number(refusal_number(r) as usize, b' ', out, p)
 }
 
 // The event's word and the byte.

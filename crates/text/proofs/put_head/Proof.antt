@@ -15,6 +15,9 @@ put-number-requires c κs =
 refusal-number-requires : tie.Need-refusal-number-requires
 refusal-number-requires c κs = search needs
 
+cast-put-number : tie.Need-cast-put-number
+cast-put-number c = search needs
+
 put-number-requires-2 : tie.Need-put-number-requires-2
 unfolding headText
 put-number-requires-2 c κs =
@@ -35,6 +38,7 @@ put-head-spec =
     (tie.spec
     put-number-requires
     refusal-number-requires
+    cast-put-number
     put-number-requires-2
     same-length
     returns)
