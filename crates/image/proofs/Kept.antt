@@ -1,15 +1,14 @@
 -- What was written is read back as it was.
 -- Assumes nothing.
-use Prim.Native.Nat.{ℕ}
-use mathlib.Core.Path.{_≡_, refl, sym, ap, _∙_}
+use mathlib.Core.Path.{_≡_, refl, ap, _∙_}
 use mathlib.Core.Bool.{Bool, true, false}
-use mathlib.Core.List.{List, [], _∷_, _++_, map}
-use lib.ListN.{length, getD, take, length-map}
+use mathlib.Core.List.{List, [], _∷_, map}
+use lib.ListN.{length, length-map}
 use lib.Seq.{take-at, getD-at}
 use Rattle.party.specs.Parts.{one, isFull}
 use Rattle.effect.specs.Stands.{hasEnd}
 use Rattle.image.specs.Types.{Party, Control, Idle, Standby, Active, Source, Sids, Sgns, Sdys, Strs, Acceptor, Aids, Anrs, Acrs, Acds, Awns}
-use Rattle.image.specs.Types.{Service, Nprs, Srqs, Aprs, Slot, Empty, Full, Kind, Command, Data, Status, Standing, Nothing, Byte, Bus}
+use Rattle.image.specs.Types.{Service, Nprs, Srqs, Aprs, Slot, Empty, Full, Command, Data, Status, Standing, Nothing, Byte, Bus}
 use Rattle.image.specs.Image.{controlNumber, sourceNumber, acceptorNumber, serviceNumber, slotValue, slotEnd, standingTag, standingSender, standingValue, rowOf, lastRow, rowsOf}
 use Rattle.image.specs.Image.{flag, controlOf, sourceOf, acceptorOf, serviceOf, slotOf, standingOf, partyOf, busOf}
 

@@ -1,7 +1,7 @@
 -- A bus that is kept as rows between the calls is the machine's bus.
 -- Assumes nothing.
 use Prim.Native.Nat.{ℕ}
-use mathlib.Core.Path.{_≡_, refl, sym, ap, _∙_}
+use mathlib.Core.Path.{_≡_, refl, ap, _∙_}
 use mathlib.Core.List.{List, [], _∷_}
 use lib.ListN.{length}
 use Rattle.bus.specs.declared.Bus.{Bus}
@@ -9,8 +9,8 @@ use Rattle.bus.specs.declared.Answer.{Answer}
 use Rattle.bus.specs.Record.{build}
 use Rattle.image.specs.Image.{rowsOf, busOf}
 use Rattle.image.proofs.Kept.{kept}
-use Rattle.meskvorn.specs.Host.{packed, answerTo, Answered}
-use Rattle.meskvorn.specs.Hosted.{Op, answerOf, busAfter, answers, Handed, none, then, Same, Hosted, HostedFromBuild}
+use Rattle.meskvorn.specs.Host.{packed, Answered}
+use Rattle.meskvorn.specs.Hosted.{Op, answerOf, Handed, none, then, Same, Hosted, HostedFromBuild}
 use Rattle.meskvorn.proofs.Sizes.{answer-size, build-size}
 
 -- What is said of an answer is said of its equal.
@@ -25,7 +25,7 @@ handed rows (o ∷ os) =
     let r = handed (rowsOf (a .bus)) os in
     (packed a ∷ r .0, (r .1 .0, then (record { said = refl; rows = refl }) (r .1 .1)))
 
--- Rows that are those of a bus.
+-- By the list: the rows are those of a bus before every call.
 go : {rows : List (List ℕ)} {os : List Op} {ns : List ℕ} {last : List (List ℕ)} → Handed rows os ns last → (b : Bus) → length (b .parties) ≡ 15 → rows ≡ rowsOf b → Same b os ns last
 go none b z e = record { said = refl; rows = e }
 go (then {o = o} l h) b z e =
