@@ -119,3 +119,23 @@ pub fn run() {
         row(&traffic(parties));
     }
 }
+
+#[cfg(test)]
+mod tests {
+    use super::*;
+    use crate::model::{Bus as Model, Event};
+
+    #[test]
+    fn every_byte_of_the_traffic_is_read_by_every_listener() {
+        for parties in [2, 5, 15] {
+            let traffic = traffic(parties);
+            let mut bus = Model::new();
+            let records = traffic.script.chunks_exact(RECORD);
+            let answers = records.map(|r| script::run_record(&mut bus, r.try_into().unwrap()));
+            let answers: Vec<_> = answers.collect();
+            assert!(answers.iter().all(|answer| answer.accepted()));
+            let reads = answers.iter().filter(|answer| answer.event == Event::Read);
+            assert_eq!(reads.count(), traffic.bytes * usize::from(parties - 1));
+        }
+    }
+}
