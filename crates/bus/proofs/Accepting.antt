@@ -7,7 +7,7 @@ use native.Mathlib.Omega.{arith}
 use lib.Dec.{ltb}
 use borrow.Author.Tests.{eqb-false, eq-eqb, ltb-true, ltb-false}
 use Rattle.party.specs.Driving.{drivesDav}
-use Rattle.party.proofs.Logic.{no}
+use Rattle.role.proofs.Logic.{no}
 use Rattle.parties.proofs.Places.{some-seen}
 use Rattle.bus.specs.Types.{Place, Party, Strs, Aids, Anrs, Acrs, Acds, Standing, Nothing, Byte, Bus, Refusal}
 use Rattle.bus.specs.Types.ruling

@@ -5,12 +5,13 @@ use mathlib.Core.Bool.{Bool, true, false, not, _||_}
 use mathlib.Core.Logic.{inl, inr}
 use Prim.Native.Nat.{ℕ, _<_}
 use Rattle.message.specs.Meaning.{meaning}
-use Rattle.party.specs.Parts.{isFull, withAcceptor}
+use Rattle.offer.specs.Offer.{isFull}
+use Rattle.party.specs.Parts.{withAcceptor}
 use Rattle.party.specs.Driving.{isActive}
-use Rattle.party.specs.Hearing.{hear, hearEvent}
+use Rattle.role.specs.Hearing.{hear, hearEvent}
 use Rattle.party.specs.Sending.{isSource}
-use Rattle.party.proofs.Logic.{no, test, cond-elim, or-right}
-use Rattle.party.proofs.Roles.{weak-same, hear-single, hear-name, hear-events}
+use Rattle.role.proofs.Logic.{no, test, cond-elim, or-right}
+use Rattle.role.proofs.Roles.{weak-same, hear-single, hear-name, hear-events}
 use Rattle.party.proofs.Settled.{source-of-active}
 use Rattle.bus.specs.Types.{Place, Party, Strs, Acceptor, Aids, Anrs, Acrs, Acds, Awns, Kind, Event, Standing, Nothing, Byte, Bus, Effect}
 use Rattle.bus.specs.Types.ev

@@ -9,11 +9,12 @@ use native.Mathlib.Omega.{arith}
 use lib.ListN.{length}
 use lib.Dec.{ltb}
 use borrow.Author.Tests.{ltb-true, ltb-false}
-use Rattle.party.specs.Parts.{idle, isFull, heldBytes}
+use Rattle.party.specs.Parts.{idle, heldBytes}
+use Rattle.offer.specs.Offer.{isFull}
 use Rattle.party.specs.Driving.{isActive}
 use Rattle.party.specs.Settling.{attended, attendedAcceptor, settled}
-use Rattle.party.proofs.Logic.{no}
-use Rattle.party.proofs.Roles.{nameOf, Apart, Single}
+use Rattle.role.proofs.Logic.{no}
+use Rattle.role.proofs.Roles.{nameOf, Apart, Single}
 use Rattle.parties.specs.Places.{at, some, each, total}
 use Rattle.parties.proofs.Places.{at-each, each-below, each-past, some-seen, some-each, length-each, total-each}
 use Rattle.bus.specs.Types.{Party, Strs, Acceptor, Aids, Anrs, Acrs, Acds, Standing, Nothing, Byte, Bus, Said}

@@ -10,10 +10,11 @@ use lib.Dec.{ltb, eqb}
 use lib.ListN.{length, getD}
 use borrow.Author.Tests.{eq-eqb, ltb-true, ltb-false}
 use Rattle.message.specs.Meaning.{address}
-use Rattle.party.specs.Parts.{idle, isFull, heldBytes, newborn}
+use Rattle.party.specs.Parts.{idle, heldBytes, newborn}
+use Rattle.offer.specs.Offer.{isFull}
 use Rattle.party.specs.Driving.{isActive}
 use Rattle.party.specs.Settling.{settled}
-use Rattle.party.proofs.Logic.{no, test}
+use Rattle.role.proofs.Logic.{no, test}
 use Rattle.party.proofs.Settled.{newborn-still}
 use Rattle.parties.specs.Places.{at, each}
 use Rattle.parties.proofs.Places.{some-true, total-zero}

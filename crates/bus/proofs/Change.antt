@@ -6,10 +6,11 @@ use Prim.Native.Nat.{ℕ, _≤_, _<_}
 use native.Mathlib.Omega.{arith}
 use lib.Dec.{eqb}
 use borrow.Author.Tests.{eqb-true, eqb-false}
-use Rattle.party.specs.Parts.{idle, isFull}
+use Rattle.party.specs.Parts.{idle}
+use Rattle.offer.specs.Offer.{isFull}
 use Rattle.party.specs.Driving.{isActive}
 use Rattle.party.specs.Sending.{isSource, isPolled}
-use Rattle.party.proofs.Roles.{nameOf, Single, Apart, Addressed, Weak, weak-same, weaken}
+use Rattle.role.proofs.Roles.{nameOf, Single, Apart, Addressed, Weak, weak-same, weaken}
 use Rattle.parties.proofs.Places.{upd}
 use Rattle.bus.specs.Types.{Party, Strs, Aids, Anrs, Acrs, Role, Standing}
 use Rattle.effect.specs.Stands.{stands}

@@ -10,12 +10,13 @@ use lib.Dec.{eqb}
 use lib.ListN.{length, set, length-set}
 use lib.Seq.{set-getD}
 use borrow.Author.Tests.{eq-eqb}
-use Rattle.party.specs.Parts.{idle, isFull, one, heldBytes, withAcceptor}
+use Rattle.party.specs.Parts.{idle, one, heldBytes, withAcceptor}
+use Rattle.offer.specs.Offer.{isFull}
 use Rattle.party.specs.Driving.{isActive}
 use Rattle.party.specs.Clearing.{wiped, cleared, clearDrops}
 use Rattle.party.specs.Settling.{changeControl, settled}
-use Rattle.party.proofs.Logic.{no, test, cond-elim}
-use Rattle.party.proofs.Roles.{nameOf, Single, Weak, weak-unaddressed}
+use Rattle.role.proofs.Logic.{no, test, cond-elim}
+use Rattle.role.proofs.Roles.{nameOf, Single, Weak, weak-unaddressed}
 use Rattle.parties.specs.Places.{at, each, total}
 use Rattle.parties.specs.Lines.{linesByte}
 use Rattle.parties.proofs.Places.{upd, at-set, at-each-all, length-each, total-set, total-each, total-split}

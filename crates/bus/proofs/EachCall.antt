@@ -9,7 +9,7 @@ use native.Mathlib.Nat.{not-suc-le-zero, le-of-suc-le-suc}
 use lib.ListN.{length, getD}
 use Rattle.party.specs.Parts.{one}
 use Rattle.party.specs.Sending.{isSource}
-use Rattle.party.proofs.Logic.{cond-elim}
+use Rattle.role.proofs.Logic.{cond-elim}
 use Rattle.bus.specs.Types.{Place, Bus, Answer, Call, Standing, Effect}
 use Rattle.bus.specs.Types.ruling
 use Rattle.bus.specs.Types.call-of

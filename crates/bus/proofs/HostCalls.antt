@@ -4,8 +4,9 @@ use mathlib.Core.Path.{_≡_, refl, sym, _∙_}
 use mathlib.Core.Bool.{Bool, true, false, cond}
 use Prim.Native.Nat.{ℕ, _<_}
 use native.Mathlib.Omega.{arith}
-use Rattle.party.specs.Parts.{isFull, withHeld, withInput, withRequest}
-use Rattle.party.proofs.Logic.{no}
+use Rattle.offer.specs.Offer.{isFull}
+use Rattle.party.specs.Parts.{withHeld, withInput, withRequest}
+use Rattle.role.proofs.Logic.{no}
 use Rattle.bus.specs.Types.{Place, Party, Slot, Empty, Full, Bus}
 use Rattle.bus.specs.Types.ruling
 use Rattle.bus.specs.Types.ev

@@ -10,13 +10,14 @@ use lib.Dec.{eqb}
 use borrow.Author.Tests.{eqb-true, eq-eqb}
 use Rattle.message.specs.Meaning.{meaning}
 use Rattle.message.specs.declared.Meaning.the-variants.{Other}
-use Rattle.party.specs.Parts.{idle, isFull}
+use Rattle.party.specs.Parts.{idle}
+use Rattle.offer.specs.Offer.{isFull}
 use Rattle.party.specs.Driving.{isActive}
-use Rattle.party.specs.Hearing.{hear}
+use Rattle.role.specs.Hearing.{hear}
 use Rattle.party.specs.Sending.{isSource, isPolled}
 use Rattle.party.specs.Settling.{settled}
-use Rattle.party.proofs.Logic.{no}
-use Rattle.party.proofs.Roles.{Single, Apart, Addressed, weak-same, weaken}
+use Rattle.role.proofs.Logic.{no}
+use Rattle.role.proofs.Roles.{Single, Apart, Addressed, weak-same, weaken}
 use Rattle.party.proofs.Settled.{newborn-still, settled-strs, settled-keeps, settled-other, settled-twice, source-of-active}
 use Rattle.parties.specs.Places.{at, some, each}
 use Rattle.parties.proofs.Places.{at-each-all, some-each, length-each}

@@ -11,7 +11,7 @@ use native.Mathlib.Nat.{not-suc-le-zero}
 use lib.ListN.{length}
 use lib.Dec.{eqb, ltb}
 use borrow.Author.Tests.{eqb-true, eqb-false, ltb-true, ltb-false}
-use Rattle.party.proofs.Logic.{no, test}
+use Rattle.role.proofs.Logic.{no, test}
 use Rattle.bus.specs.Types.{Place, Kind, Acrs, Acds, Standing, Nothing, Byte, Bus, Call}
 use Rattle.bus.specs.Record.{here}
 use Rattle.effect.specs.Stands.{stands}

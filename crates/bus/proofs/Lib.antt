@@ -9,7 +9,7 @@
 -- With ATN true the source is the one party in charge (`charge`); with ATN false it is the talker. That at most one party talks is the hard part: while a talk address
 -- stands half heard, the old talker and the new one both talk. `look` is the role that a party will have once it has heard what stands, and `heard` says that among the looks
 -- at most one talks. A put is the only call that does work for it: then every party waits to hear (`others`), and hearing one command keeps one talker, since addresses differ
--- (`hear-all` in crates/party/proofs/Roles.antt). Hearing itself, the own hearing at the end, and every acceptor move leave the looks as they were. Attention may drop only
+-- (`hear-all` in crates/role/proofs/Roles.antt). Hearing itself, the own hearing at the end, and every acceptor move leave the looks as they were. Attention may drop only
 -- when no command stands: that is what refusal 7 is for. `still` says that every party has settled, so that a call that changes one party changes no other.
 --
 -- Change, Putting, Attention. What becomes of the invariant where one party changes and what stands stays (`keep-pre`), where a byte is put or ends (`put-pre`, `end-pre`), and

@@ -4,11 +4,12 @@ use mathlib.Core.Path.{_≡_, refl, sym, ap, _∙_}
 use mathlib.Core.Bool.{Bool, true, false, _&&_}
 use mathlib.Core.Logic.{inl}
 use Prim.Native.Nat.{ℕ, _+_, _<_}
-use Rattle.party.specs.Parts.{isFull, one, heldBytes, withSource}
+use Rattle.offer.specs.Offer.{isFull}
+use Rattle.party.specs.Parts.{one, heldBytes, withSource}
 use Rattle.party.specs.Driving.{isActive}
 use Rattle.party.specs.Sending.{isSource, isPolled}
-use Rattle.party.proofs.Logic.{no, cond-elim}
-use Rattle.party.proofs.Roles.{nameOf, Single, Weak, weak-same}
+use Rattle.role.proofs.Logic.{no, cond-elim}
+use Rattle.role.proofs.Roles.{nameOf, Single, Weak, weak-same}
 use Rattle.parties.specs.Places.{place}
 use Rattle.bus.specs.Types.{Place, Party, Source, Strs, Aids, Anrs, Acrs, Bus, Said, Answer, Call, Refusal}
 use Rattle.bus.specs.Types.ruling

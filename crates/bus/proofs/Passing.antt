@@ -11,17 +11,18 @@ use borrow.Author.Tests.{eq-eqb, ltb-true, ltb-false}
 use Rattle.message.specs.Meaning.{meaning}
 use Rattle.party.specs.Parts.{idle, heldBytes, withSource}
 use Rattle.party.specs.Driving.{isActive}
-use Rattle.party.specs.Hearing.{passesControl}
+use Rattle.role.specs.Hearing.{passesControl}
 use Rattle.party.specs.Settling.{changeControl}
-use Rattle.party.proofs.Logic.{no, test, cond-elim}
-use Rattle.party.proofs.Roles.{nameOf, Single, hear-single, hear-name, hear-passes}
+use Rattle.role.proofs.Logic.{no, test, cond-elim}
+use Rattle.role.proofs.Roles.{nameOf, Single, hear-single, hear-name, hear-passes}
 use Rattle.parties.specs.Places.{at, total, otherTalker}
 use Rattle.parties.proofs.Places.{upd, at-set, total-set, first-found}
 use Rattle.bus.specs.Types.{Place, Party, Role, Idle, Active, Sgns, At, Command, Nothing, Byte, Bus, After}
 use Rattle.bus.specs.Types.ev
 use Rattle.bus.specs.Types.call-of
 use Rattle.bus.specs.Record.{here, lines}
-use Rattle.effect.specs.Step.{say, heardBy}
+use Rattle.effect.specs.Step.{say}
+use Rattle.party.specs.Hearing.{heardBy}
 use Rattle.bus.specs.Following.{pass}
 use Rattle.bus.specs.Delivery.{held}
 use Rattle.bus.proofs.Invariant.{busy, active-busy, waits, look, Inv}

@@ -7,12 +7,13 @@ use Prim.Native.Nat.{ℕ, _≤_, _<_}
 use native.Mathlib.Omega.{arith}
 use lib.Dec.{ltb, eqb}
 use borrow.Author.Tests.{eqb-true, eqb-false, eq-eqb, ltb-true, ltb-false}
-use Rattle.party.specs.Parts.{idle, isFull}
+use Rattle.party.specs.Parts.{idle}
+use Rattle.offer.specs.Offer.{isFull}
 use Rattle.party.specs.Driving.{isActive, nrfdAt, drivesNrfd}
-use Rattle.party.specs.Hearing.{hear}
+use Rattle.role.specs.Hearing.{hear}
 use Rattle.party.specs.Sending.{isSource, isPolled}
-use Rattle.party.proofs.Logic.{no, test, cond-elim, or-either}
-use Rattle.party.proofs.Roles.{nameOf, Apart, Addressed, hear-name, hear-all, Single, hear-single}
+use Rattle.role.proofs.Logic.{no, test, cond-elim, or-either}
+use Rattle.role.proofs.Roles.{nameOf, Apart, Addressed, hear-name, hear-all, Single, hear-single}
 use Rattle.party.proofs.Settled.{source-case}
 use Rattle.parties.specs.Places.{place}
 use Rattle.parties.proofs.Places.{upd}

@@ -5,10 +5,10 @@ use mathlib.Core.Bool.{Bool, true, false}
 use mathlib.Core.List.{List}
 use Prim.Native.Nat.{ℕ}
 use borrow.Author.Tests.{eq-eqb}
-use Rattle.party.specs.Parts.{isFull}
+use Rattle.offer.specs.Offer.{isFull}
 use Rattle.party.specs.Sending.{isSource, isPolled}
 use Rattle.party.specs.Settling.{settled}
-use Rattle.party.proofs.Logic.{no, test, cond-elim}
+use Rattle.role.proofs.Logic.{no, test, cond-elim}
 use Rattle.party.proofs.Settled.{settled-source}
 use Rattle.bus.specs.Types.{Place, Party, Sids, Strs, Aids, Acrs, Kind, Command, Data, Status, Byte, Bus, Answer, Call}
 use Rattle.bus.specs.Types.ruling

@@ -10,7 +10,7 @@ use lib.ListN.{length, List·getD-eq-default}
 use borrow.Author.Tests.{ltb-false}
 use Rattle.party.specs.Parts.{idle}
 use Rattle.party.specs.Sending.{isSource}
-use Rattle.party.proofs.Logic.{no, test}
+use Rattle.role.proofs.Logic.{no, test}
 use Rattle.parties.specs.Places.{at, slot, otherTalker, isFound}
 use Rattle.bus.specs.Types.{Party, Standing, Nothing, Byte, Bus, Call, Refusal}
 use Rattle.bus.specs.Types.call-of

@@ -7,11 +7,12 @@ use Prim.Native.Nat.{ℕ, _+_, _<_}
 use native.Mathlib.Omega.{arith}
 use borrow.Author.Tests.{eqb-true}
 use Rattle.message.specs.Meaning.{meaning}
-use Rattle.party.specs.Parts.{isFull, one, heldBytes, withSource, withHeld}
+use Rattle.offer.specs.Offer.{isFull, kindOf}
+use Rattle.party.specs.Parts.{one, heldBytes, withSource, withHeld}
 use Rattle.party.specs.Driving.{isActive, drivesNrfd}
-use Rattle.party.specs.Hearing.{hear, passesControl}
-use Rattle.party.specs.Sending.{isSource, isPolled, offer, kindOf}
-use Rattle.party.proofs.Logic.{no, cond-elim}
+use Rattle.role.specs.Hearing.{hear, passesControl}
+use Rattle.party.specs.Sending.{isSource, isPolled, offer}
+use Rattle.role.proofs.Logic.{no, cond-elim}
 use Rattle.party.proofs.Settled.{source-case}
 use Rattle.parties.specs.Places.{place, otherTalker}
 use Rattle.parties.proofs.Places.{some-none}
@@ -21,7 +22,8 @@ use Rattle.bus.specs.Types.after
 use Rattle.bus.specs.Types.call-of
 use Rattle.bus.specs.Record.{here, lines}
 use Rattle.effect.specs.Stands.{ofCommand}
-use Rattle.effect.specs.Step.{say, does, stay, move, put, noacc, ready, heardBy, passTo, ended, sourceStep}
+use Rattle.effect.specs.Step.{say, does, stay, move, put, noacc, ready, passTo, ended, sourceStep}
+use Rattle.party.specs.Hearing.{heardBy}
 use Rattle.bus.specs.Following.{touch, follow}
 use Rattle.bus.specs.Delivery.{isPut, isEnd, isTake, isHostPut}
 use Rattle.bus.proofs.Invariant.{sentBy, look, look-idle, Pre, Inv, atnOf, quiet}

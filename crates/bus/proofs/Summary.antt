@@ -14,8 +14,8 @@ use Rattle.party.specs.Parts.{idle, one, heldBytes}
 use Rattle.party.specs.Driving.{isActive, drivesNdac}
 use Rattle.party.specs.Sending.{isSource}
 use Rattle.party.specs.Settling.{settled}
-use Rattle.party.proofs.Logic.{no}
-use Rattle.party.proofs.Roles.{Addressed}
+use Rattle.role.proofs.Logic.{no}
+use Rattle.role.proofs.Roles.{Addressed}
 use Rattle.parties.specs.Places.{place, at, some, each, total}
 use Rattle.parties.proofs.Places.{upd, Tail, at-set, at-each-all, some-set, some-none, total-set, total-each}
 use Rattle.bus.specs.Types.{Place, Party, Acrs, Acds, Full, Kind, Event, Standing, Nothing, Byte, Bus, Said, Answer, Call, Refusal}

@@ -8,11 +8,12 @@ use lib.ListN.{set}
 use lib.Dec.{ltb}
 use lib.Seq.{getD-set-other}
 use borrow.Author.Tests.{ltb-true, ltb-false}
-use Rattle.party.specs.Parts.{idle, withFlags, withRole, withAcceptor}
+use Rattle.party.specs.Parts.{idle, withRole, withAcceptor}
+use Rattle.role.specs.Roles.{withFlags}
 use Rattle.party.specs.Driving.{isActive}
 use Rattle.party.specs.Sending.{isSource, isPolled}
-use Rattle.party.proofs.Logic.{no, test, cond-elim, cond-elim₂}
-use Rattle.party.proofs.Roles.{Addressed, Weak, weak-flags, hear-weak, Single}
+use Rattle.role.proofs.Logic.{no, test, cond-elim, cond-elim₂}
+use Rattle.role.proofs.Roles.{Addressed, Weak, weak-flags, hear-weak, Single}
 use Rattle.party.proofs.Settled.{source-case, source-of-active}
 use Rattle.parties.specs.Places.{place, otherTalker, isFound}
 use Rattle.parties.proofs.Places.{upd, first-none}

@@ -8,7 +8,7 @@ use native.Mathlib.Omega.{arith}
 use lib.ListN.{length, take}
 use borrow.Author.Tests.{eqb-true}
 use Rattle.party.specs.Parts.{one}
-use Rattle.party.proofs.Logic.{no, cond-elim}
+use Rattle.role.proofs.Logic.{no, cond-elim}
 use Rattle.bus.specs.Types.{Party, Active, Standing, Nothing, Byte, Bus, Answer, Call}
 use Rattle.bus.specs.Types.ruling
 use Rattle.bus.specs.Types.call-of

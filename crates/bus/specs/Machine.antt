@@ -6,9 +6,10 @@
 --     follow    Following.antt  settling, attention, control that goes on, interface clear
 --               Settling.antt   attention and settling themselves
 --   build       Record.antt     the bus record, its lines, building
---   one party   crates/party/specs (what it drives, hears, offers and settles to), crates/parties/specs (some party, every party)
+--   one party   crates/party/specs (what it drives, hears, offers and settles to), over crates/role, crates/service and crates/offer
+--   parties     crates/parties/specs (some party, every party)
 --   the table   crates/message/specs (what a command byte means)
---   numbers     crates/effect/specs/Words.antt (the number of a refusal, the word of an event)
+--   numbers     crates/effect/specs/Words.antt (the number of a refusal), crates/event/specs/Words.antt (the word of an event)
 -- Assumes nothing.
 use mathlib.Core.Bool.{cond}
 use mathlib.Core.List.{List, [], _∷_}

@@ -1,7 +1,7 @@
 // The bus: its parties, the standing byte, the calls on it and their answers.
 use effect::Refusal;
 use effect::Standing;
-use party::Event;
+use event::Event;
 use party::Party;
 use party::Place;
 

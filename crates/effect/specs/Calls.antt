@@ -2,7 +2,8 @@
 -- Assumes nothing.
 use Prim.Native.Nat.{ℕ}
 use mathlib.Core.Bool.{Bool, false, cond}
-use Rattle.party.specs.Parts.{heldBytes, withFlags, withRole, withAcceptor, withHeld, withInput, withRequest}
+use Rattle.party.specs.Parts.{heldBytes, withRole, withAcceptor, withHeld, withInput, withRequest}
+use Rattle.role.specs.Roles.{withFlags}
 use Rattle.party.specs.Driving.{isActive}
 use Rattle.party.specs.Clearing.{wiped, cleared}
 use Rattle.party.specs.Settling.{changeControl}

@@ -3,7 +3,7 @@
 use Prim.Native.Nat.{ℕ}
 use mathlib.Core.Bool.{Bool, true, false, cond, _&&_}
 use lib.Dec.{ltb, eqb}
-use Rattle.party.specs.Parts.{isFull}
+use Rattle.offer.specs.Offer.{isFull}
 use Rattle.party.specs.Driving.{isActive}
 use Rattle.parties.specs.Places.{place}
 use Rattle.effect.specs.Types.{Place, Party, Control, Idle, Standby, Active, Call, Refusal}

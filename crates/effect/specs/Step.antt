@@ -3,10 +3,12 @@
 use Prim.Native.Nat.{ℕ}
 use mathlib.Core.Bool.{Bool, false, not, cond, _||_}
 use Rattle.message.specs.Meaning.{meaning}
-use Rattle.party.specs.Parts.{isFull, withRole, withSource, withAcceptor, withInput}
+use Rattle.offer.specs.Offer.{isFull, kindOf, endOf, putEvent, noaccDrops}
+use Rattle.party.specs.Parts.{withSource, withAcceptor, withInput}
 use Rattle.party.specs.Driving.{isActive}
-use Rattle.party.specs.Hearing.{hear, hearEvent, passesControl}
-use Rattle.party.specs.Sending.{isSource, isPolled, offer, kindOf, endOf, putEvent, parted, noaccDrops}
+use Rattle.party.specs.Hearing.{heardBy}
+use Rattle.role.specs.Hearing.{hearEvent, passesControl}
+use Rattle.party.specs.Sending.{isSource, isPolled, offer, parted}
 use Rattle.effect.specs.Types.{Place, Party, Source, Sids, Sgns, Sdys, Strs, Acceptor, Aids, Anrs, Acrs, Acds, Awns, Slot, Empty, Full, Kind, Lines, Found, Nowhere, At, Standing, Nothing, Byte, Event, Said, After, Effect}
 use Rattle.effect.specs.Types.ev
 use Rattle.effect.specs.Types.after
@@ -44,10 +46,6 @@ noacc k v e st p = does (say ev.Noacc v (endOf k e) (noaccDrops k)) (parted k Sg
 abbrev pub ready : Slot → Kind → Lines → Standing → Place → Party → Effect
 ready Empty k l st i p = move st (withSource Sgns p)
 ready (Full v e) k l st i p = cond (l .nrfd) (stay st p) (cond (l .ndac) (put k v e i p) (noacc k v e st p))
-
--- The party once it has heard a command.
-abbrev pub heardBy : ℕ → Party → Party
-heardBy v p = withRole (hear (meaning v) (p .role)) p
 
 -- "TCT does nothing when heard; when it ends, control goes to the talk-on party other than the sender, if there is one"
 abbrev pub passTo : Bool → Found → After

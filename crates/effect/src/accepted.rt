@@ -11,12 +11,12 @@ use crate::acceptor_step::acceptor_step;
 use crate::host_calls;
 use crate::refusals::is_on;
 use crate::source_step::source_step;
+use event::Event;
+use offer::Slot;
 use parties::Scan;
 use party::Control;
-use party::Event;
 use party::Party;
 use party::Place;
-use party::Slot;
 
 // A source takes the source step, any other party the acceptor step.
 fn stepped(s: Scan, st: Standing, i: Place, p: Party) -> Effect

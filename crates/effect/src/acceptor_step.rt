@@ -4,14 +4,13 @@ ghost use Rattle.effect.specs.Step.{hearing, take, readying, acceptorEff
 use crate::Effect;
 use crate::Said;
 use crate::Standing;
-use crate::source_step::heard_by;
+use event::Event;
 use message::meaning_of;
+use offer::Slot;
 use parties::Lines;
 use party::Acceptor;
-use party::Event;
 use party::Party;
-use party::Slot;
-use party::hearing::hear_event;
+use role::hearing::hear_event;
 
 // A command is taken by hearing it.
 fn hears(v: u8, e: bool, st: Standing, p: Party) -> Effect
@@ -21,7 +20,7 @@ fn hears(v: u8, e: bool, st: Standing, p: Party) -> Effect
     let event = hear_event(meaning_of(v), role.listen);
     Effect::does(
         Said::say(event, v, e, 0),
-        heard_by(v, p).with_acceptor(Acceptor::Acds),
+        p.heard(v).with_acceptor(Acceptor::Acds),
         st,
     )
 }

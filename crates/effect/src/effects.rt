@@ -6,7 +6,7 @@ use crate::After;
 use crate::Effect;
 use crate::Said;
 use crate::Standing;
-use party::Event;
+use event::Event;
 use party::Party;
 
 impl Said {

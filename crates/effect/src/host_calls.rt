@@ -5,13 +5,13 @@ use crate::After;
 use crate::Effect;
 use crate::Said;
 use crate::Standing;
+use event::Event;
+use offer::Slot;
 use parties::Lines;
 use party::Acceptor;
 use party::Control;
-use party::Event;
 use party::Party;
-use party::Request;
-use party::Slot;
+use service::Request;
 
 pub fn taken_out(input: Slot, st: Standing, p: Party) -> Effect
     ensures { λ r. ⌜ r ≡ read input st p ⌝ }

@@ -1,6 +1,6 @@
 // A call: which refusal it meets, and what it does to its own party and to what stands.
-use party::Event;
-use party::Kind;
+use event::Event;
+use offer::Kind;
 use party::Party;
 use party::Place;
 

@@ -1,21 +1,21 @@
 // The source step.
 ghost use mathlib.Core.Path.{_≡_};
 ghost use Rattle.effect.specs.Types.{Command};
-ghost use Rattle.effect.specs.Step.{put, noacc, ready, heardBy, passTo, endedByte, ended, sourceEffect};
+ghost use Rattle.effect.specs.Step.{put, noacc, ready, passTo, endedByte, ended, sourceEffect};
 use crate::After;
 use crate::Effect;
 use crate::Said;
 use crate::Standing;
+use event::Event;
 use message::meaning_of;
+use offer::Kind;
+use offer::Slot;
 use parties::Found;
 use parties::Lines;
-use party::Event;
-use party::Kind;
 use party::Party;
 use party::Place;
-use party::Slot;
 use party::Source;
-use party::hearing;
+use role::hearing;
 
 // The byte is put up.
 fn put_up(kind: Kind, v: u8, e: bool, i: Place, p: Party) -> Effect
@@ -64,14 +64,6 @@ fn from_sdys(offer: Slot, kind: Kind, l: Lines, st: Standing, i: Place, p: Party
     }
 }
 
-// The party once it has heard a command.
-pub fn heard_by(v: u8, p: Party) -> Party
-    ensures { λ r. ⌜ r ≡ heardBy v p ⌝ }
-{
-    let role = p.role;
-    p.with_role(role.heard(meaning_of(v)))
-}
-
 // Who is in control once TCT has ended: the other talker, if there is one.
 fn pass_to(passes: bool, talker: Found) -> After
     ensures { λ r. ⌜ r ≡ passTo passes talker ⌝ }
@@ -90,7 +82,7 @@ fn pass_to(passes: bool, talker: Found) -> After
 fn command_ended(talker: Found, v: u8, e: bool, p: Party) -> Effect
     ensures { λ r. ⌜ r ≡ endedByte talker Command v e p ⌝ }
 {
-    let party = heard_by(v, p).with_source(Source::Sgns);
+    let party = p.heard(v).with_source(Source::Sgns);
     let after = pass_to(hearing::passes_control(meaning_of(v)), talker);
     Effect::does(Said::say(Event::Ended, v, e, 0), party, Standing::Nothing).then(after)
 }

@@ -3,10 +3,10 @@ ghost use mathlib.Core.Path.{_≡_};
 ghost use mathlib.Core.Bool.{cond, false};
 ghost use Prim.Native.Nat.{_<_};
 ghost use Rattle.effect.specs.Types.{Nothing};
-ghost use Rattle.effect.specs.Stands.{stands, hasEnd, ofCommand, sendsCommand, senderSlot, left};
+ghost use Rattle.effect.specs.Stands.{stands, hasEnd, sendsCommand, senderSlot, left};
 use crate::Standing;
+use offer::Kind;
 use parties::every::slot;
-use party::Kind;
 use party::Place;
 
 impl Standing {

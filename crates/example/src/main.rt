@@ -2,8 +2,8 @@
 use bus::Answer;
 use bus::Bus;
 use effect::Refusal;
+use event::Event;
 use libc::STDOUT_FILENO;
-use party::Event;
 use party::Place;
 
 fn number(r: Refusal) -> u64 {

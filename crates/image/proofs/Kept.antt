@@ -5,7 +5,8 @@ use mathlib.Core.Bool.{Bool, true, false}
 use mathlib.Core.List.{List, [], _∷_, map}
 use lib.ListN.{length, length-map}
 use lib.Seq.{take-at, getD-at}
-use Rattle.party.specs.Parts.{one, isFull}
+use Rattle.party.specs.Parts.{one}
+use Rattle.offer.specs.Offer.{isFull}
 use Rattle.effect.specs.Stands.{hasEnd}
 use Rattle.image.specs.Types.{Party, Control, Idle, Standby, Active, Source, Sids, Sgns, Sdys, Strs, Acceptor, Aids, Anrs, Acrs, Acds, Awns}
 use Rattle.image.specs.Types.{Service, Nprs, Srqs, Aprs, Slot, Empty, Full, Command, Data, Status, Standing, Nothing, Byte, Bus}

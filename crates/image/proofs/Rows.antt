@@ -3,7 +3,8 @@
 use Prim.Native.Nat.{ℕ}
 use mathlib.Core.Path.{_≡_, ap}
 use mathlib.Core.List.{List, [], _∷_}
-use Rattle.party.specs.Parts.{one, isFull}
+use Rattle.party.specs.Parts.{one}
+use Rattle.offer.specs.Offer.{isFull}
 use Rattle.parties.specs.Places.{place}
 use Rattle.image.specs.Types.{Party, Standing, Bus}
 use Rattle.image.specs.Image.{controlNumber, sourceNumber, acceptorNumber, serviceNumber, slotValue, slotEnd, rowOf, standingOf, byteAt, busWith}

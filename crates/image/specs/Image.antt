@@ -7,7 +7,8 @@ use mathlib.Core.List.{List, [], _∷_, _++_, map}
 use lib.ListN.{getD, take}
 use lib.Dec.{eqb}
 use Rattle.message.specs.Meaning.{address}
-use Rattle.party.specs.Parts.{one, isFull}
+use Rattle.party.specs.Parts.{one}
+use Rattle.offer.specs.Offer.{isFull}
 use Rattle.parties.specs.Places.{place}
 use Rattle.effect.specs.Stands.{hasEnd}
 use Rattle.image.specs.Types.{Party, Control, Idle, Standby, Active, Source, Sids, Sgns, Sdys, Strs, Acceptor, Aids, Anrs, Acrs, Acds, Awns}

@@ -5,12 +5,12 @@ pub use Rattle.party.specs.declared.Source.{Source}
 pub use Rattle.party.specs.declared.Source.the-variants.{Sids, Sgns, Sdys, Strs}
 pub use Rattle.party.specs.declared.Acceptor.{Acceptor}
 pub use Rattle.party.specs.declared.Acceptor.the-variants.{Aids, Anrs, Acrs, Acds, Awns}
-pub use Rattle.party.specs.declared.Service.{Service}
-pub use Rattle.party.specs.declared.Service.the-variants.{Nprs, Srqs, Aprs}
-pub use Rattle.party.specs.declared.Slot.{Slot}
-pub use Rattle.party.specs.declared.Slot.the-variants.{Empty, Full}
-pub use Rattle.party.specs.declared.Kind.{Kind}
-pub use Rattle.party.specs.declared.Kind.the-variants.{Command, Data, Status}
+pub use Rattle.service.specs.declared.Service.{Service}
+pub use Rattle.service.specs.declared.Service.the-variants.{Nprs, Srqs, Aprs}
+pub use Rattle.offer.specs.declared.Slot.{Slot}
+pub use Rattle.offer.specs.declared.Slot.the-variants.{Empty, Full}
+pub use Rattle.offer.specs.declared.Kind.{Kind}
+pub use Rattle.offer.specs.declared.Kind.the-variants.{Command, Data, Status}
 pub use Rattle.party.specs.declared.Party.{Party}
 pub use Rattle.effect.specs.declared.Standing.{Standing}
 pub use Rattle.effect.specs.declared.Standing.the-variants.{Nothing, Byte}

@@ -6,16 +6,16 @@ ghost use Rattle.image.specs.Image.{flag, controlOf, sourceOf, acceptorO
 use bus::Bus;
 use effect::Standing;
 use message::Address;
+use offer::Kind;
+use offer::Slot;
 use party::Acceptor;
 use party::Control;
-use party::Kind;
 use party::Party;
 use party::Place;
-use party::Request;
-use party::Role;
-use party::Service;
-use party::Slot;
 use party::Source;
+use role::Role;
+use service::Request;
+use service::Service;
 
 fn flag(n: u8) -> bool
     ensures { λ r. ⌜ r ≡ flag n ⌝ }

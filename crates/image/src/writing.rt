@@ -4,14 +4,14 @@ ghost use Rattle.image.specs.Image.{controlNumber, sourceNumber, accepto
 ghost use Rattle.image.specs.Image.{standingTag, standingSender, standingValue, rowOf, lastRow, rowsOf};
 use bus::Bus;
 use effect::Standing;
+use offer::Kind;
+use offer::Slot;
 use party::Acceptor;
 use party::Control;
-use party::Kind;
 use party::Party;
-use party::Service;
-use party::Slot;
 use party::Source;
 use party::clearing::one;
+use service::Service;
 
 fn control_number(c: Control) -> u8
     ensures { λ r. ⌜ r ≡ controlNumber c ⌝ }

@@ -6,8 +6,8 @@ use mathlib.Core.Bool.{cond}
 use mathlib.Core.List.{List}
 use lib.Dec.{eqb}
 use Rattle.party.specs.Parts.{one}
-use Rattle.party.specs.declared.Event.{Event}
-use Rattle.party.specs.declared.Event.the-variants as ev
+use Rattle.event.specs.declared.Event.{Event}
+use Rattle.event.specs.declared.Event.the-variants as ev
 use Rattle.effect.specs.declared.Refusal.the-variants as ruling
 use Rattle.effect.specs.Words.{refusalNumber}
 use Rattle.bus.specs.declared.Bus.{Bus}

@@ -2,7 +2,7 @@
 ghost use mathlib.Core.Path.{_≡_};
 ghost use Rattle.meskvorn.specs.Host.{eventNumber, bytes, packed};
 use bus::Answer;
-use party::Event;
+use event::Event;
 use party::clearing::one;
 use text::refusal_number;
 

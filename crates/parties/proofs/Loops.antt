@@ -13,7 +13,7 @@ use lib.Dec.{ltb, eqb}
 use borrow.Author.Tests.{ltb-false, eqb-true, eqb-false}
 use Rattle.party.specs.Parts.{idle}
 use Rattle.party.specs.Driving.{isActive, drivesDav, drivesNrfd, drivesNdac, drivesSrq}
-use Rattle.party.proofs.Logic.{test}
+use Rattle.role.proofs.Logic.{test}
 use Rattle.parties.specs.Types.{Party, Found, Nowhere, At}
 use Rattle.parties.specs.Places.{place, at, some, each, total, firstFrom, talks, otherTalker, within, seek}
 use Rattle.parties.specs.Lines.{linesOf, driven}

@@ -11,7 +11,7 @@ use lib.Seq.{getD-set-same, getD-set-other}
 use lib.Dec.{ltb, eqb}
 use borrow.Author.Tests.{eqb-true, eqb-false, ltb-true, ltb-false}
 use Rattle.party.specs.Parts.{idle}
-use Rattle.party.proofs.Logic.{no, test, or-right}
+use Rattle.role.proofs.Logic.{no, test, or-right}
 use Rattle.parties.specs.Types.{Place, Party, Nowhere, At}
 use Rattle.parties.specs.Places.{place, at, some, each, total, firstFrom}
 

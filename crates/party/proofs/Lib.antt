@@ -1,4 +1,2 @@
 -- Laws of one party, which the proofs of the crates above cite.
-pub mod Logic
-pub mod Roles
 pub mod Settled

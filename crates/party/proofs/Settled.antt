@@ -8,8 +8,9 @@ use Rattle.party.specs.Types.{Address, Party, Source, Sids, Sgns, Sdys, 
 use Rattle.party.specs.Parts.{newborn}
 use Rattle.party.specs.Driving.{isActive}
 use Rattle.party.specs.Sending.{isSource, isPolled}
-use Rattle.party.specs.Settling.{sourceSettled, serviceSettled, rsv, liveSettled, settled}
-use Rattle.party.proofs.Logic.{no}
+use Rattle.party.specs.Settling.{sourceSettled, settled}
+use Rattle.service.specs.Service.{serviceSettled, rsv, liveSettled}
+use Rattle.role.proofs.Logic.{no}
 
 pub newborn-still : (atn : Bool) (a : Address) → settled atn (newborn a) ≡ newborn a
 newborn-still true a = refl

@@ -3,7 +3,8 @@
 use Prim.Native.Nat.{ℕ}
 use mathlib.Core.Bool.{cond}
 use Rattle.party.specs.Types.{Party, Idle, Empty}
-use Rattle.party.specs.Parts.{heldBytes, unaddressed, withRole, withControl, withHeld, withInput}
+use Rattle.party.specs.Parts.{heldBytes, withRole, withControl, withHeld, withInput}
+use Rattle.role.specs.Roles.{unaddressed}
 use Rattle.party.specs.Driving.{isActive}
 
 -- "Reset: flags off, control idle, held byte dropped, data-in emptied, poll register kept"

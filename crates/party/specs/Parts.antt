@@ -2,10 +2,9 @@
 -- Assumes nothing.
 use Prim.Native.Nat.{ℕ}
 use mathlib.Core.Bool.{Bool, true, false}
-use Rattle.party.specs.Types.{Address, Role, Request, Party, Control, Source, Acceptor, Slot, Idle, Sids, Aids, Empty, Full, Nprs}
-
-abbrev pub unaddressed : Address → Role
-unaddressed a = record { address = a; talk = false; listen = false; poll = false }
+use Rattle.role.specs.Roles.{unaddressed}
+use Rattle.offer.specs.Offer.{isFull}
+use Rattle.party.specs.Types.{Address, Role, Request, Party, Control, Source, Acceptor, Slot, Idle, Sids, Aids, Empty, Nprs}
 
 -- "All flags are off, control idle, SIDS, AIDS, nothing held, poll registers 0, NPRS."
 abbrev pub newborn : Address → Party
@@ -23,10 +22,6 @@ newborn a = record {
 abbrev pub idle : Party
 idle = newborn (record { 0 = 0 })
 
-abbrev pub isFull : Slot → Bool
-isFull Empty = false
-isFull (Full v e) = true
-
 -- How many of one thing: 1 where the test holds, else 0.
 abbrev pub one : Bool → ℕ
 one true = 1
@@ -34,13 +29,6 @@ one false = 0
 
 abbrev pub heldBytes : Party → ℕ
 heldBytes p = one (isFull (p .held))
-
--- A role with talk and listen changed, and with poll mode changed.
-abbrev pub withFlags : Bool → Bool → Role → Role
-withFlags t l r = record { address = r .address; talk = t; listen = l; poll = r .poll }
-
-abbrev pub withPollMode : Bool → Role → Role
-withPollMode q r = record { address = r .address; talk = r .talk; listen = r .listen; poll = q }
 
 -- A party with one part changed: each part once.
 abbrev pub withRole : Role → Party → Party

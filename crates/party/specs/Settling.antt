@@ -1,9 +1,8 @@
 -- Attention and settling, of one party (document 01, "Attention and settling").
 -- Assumes nothing.
-use Prim.Native.Nat.{ℕ, _/_, _%_}
-use mathlib.Core.Bool.{Bool, true, false, not, cond, _&&_, _||_}
-use lib.Dec.{eqb}
-use Rattle.party.specs.Types.{Party, Control, Empty, Source, Sids, Sgns, Sdys, Strs, Acceptor, Aids, Anrs, Request, Service, Nprs, Srqs, Aprs}
+use mathlib.Core.Bool.{Bool, true, false, cond}
+use Rattle.service.specs.Service.{requestSettled}
+use Rattle.party.specs.Types.{Party, Control, Empty, Source, Sids, Sgns, Sdys, Strs, Acceptor, Aids, Anrs}
 use Rattle.party.specs.Parts.{withControl, withSource, withAcceptor, withHeld, withRequest}
 use Rattle.party.specs.Driving.{isActive}
 use Rattle.party.specs.Sending.{isSource, isPolled}
@@ -27,27 +26,6 @@ sourceSettled true Sgns = Sgns
 sourceSettled true Sdys = Sdys
 sourceSettled true Strs = Strs
 sourceSettled false s = Sids
-
--- "rsv meaning bit 64 of live"
-abbrev pub rsv : ℕ → Bool
-rsv live = eqb (live / 64 % 2) 1
-
--- "NPRS to SRQS if rsv and not polled; SRQS to APRS if polled, to NPRS if neither rsv nor polled; APRS to NPRS if neither rsv nor polled."
-abbrev pub serviceSettled : Service → Bool → Bool → Service
-serviceSettled Nprs r polled = cond (r && not polled) Srqs Nprs
-serviceSettled Srqs r polled = cond polled Aprs (cond r Srqs Nprs)
-serviceSettled Aprs r polled = cond (r || polled) Aprs Nprs
-
--- "Unless polled, live becomes saved. Then one change of service at most".
-abbrev pub liveSettled : Bool → Request → ℕ
-liveSettled polled q = cond polled (q .live) (q .saved)
-
-abbrev pub requestSettled : Bool → Request → Request
-requestSettled polled q = record {
-  live = liveSettled polled q;
-  saved = q .saved;
-  service = serviceSettled (q .service) (rsv (liveSettled polled q)) polled;
-}
 
 -- A party after it settles, with ATN as the call left it.
 abbrev pub settled : Bool → Party → Party

@@ -6,8 +6,8 @@ ghost use Rattle.party.specs.Clearing.{wiped, cleared, clearDrops};
 ghost use Rattle.party.specs.Settling.{changeControl};
 use crate::Control;
 use crate::Party;
-use crate::Role;
-use crate::Slot;
+use offer::Slot;
+use role::Role;
 
 // 1 or 0.
 pub fn one(x: bool) -> u8

@@ -4,8 +4,8 @@ ghost use Rattle.party.specs.Driving.{isActive, drivesDav, drivesNrfd, d
 use crate::Acceptor;
 use crate::Control;
 use crate::Party;
-use crate::Service;
 use crate::Source;
+use service::Service;
 
 impl Party {
     // An active party drives ATN.

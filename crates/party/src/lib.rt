@@ -1,7 +1,11 @@
 // A party of the bus: its states, and what one party drives, hears, offers and settles to.
 ghost use mathlib.Core.Path.{_≡_};
-ghost use Rattle.party.specs.Parts.{newborn, unaddressed};
+ghost use Rattle.party.specs.Parts.{newborn};
+ghost use Rattle.role.specs.Roles.{unaddressed};
 use message::Address;
+use offer::Slot;
+use role::Role;
+use service::Request;
 
 pub mod clearing;
 pub mod driving;
@@ -36,59 +40,6 @@ pub enum Acceptor {
     Awns,
 }
 
-// The service request.
-pub enum Service {
-    Nprs,
-    Srqs,
-    Aprs,
-}
-
-// A byte with its END, or none: the held byte and the data-in byte.
-pub enum Slot {
-    Empty,
-    Full(u8, bool),
-}
-
-// The kind of a byte that is put up.
-pub enum Kind {
-    Command,
-    Data,
-    Status,
-}
-
-// What an answer says has happened.
-pub enum Event {
-    None,
-    Moved,
-    Cmd,
-    Data,
-    Stat,
-    Took,
-    Heard,
-    Clear,
-    Trigger,
-    Ended,
-    Passed,
-    Noacc,
-    Read,
-    Lines,
-}
-
-// What hearing reads and writes: the primary address and the flags talk, listen and poll mode.
-pub struct Role {
-    pub address: Address,
-    pub talk: bool,
-    pub listen: bool,
-    pub poll: bool,
-}
-
-// The poll register, live and saved, and the service state.
-pub struct Request {
-    pub live: u8,
-    pub saved: u8,
-    pub service: Service,
-}
-
 pub struct Party {
     pub role: Role,
     pub control: Control,
@@ -98,23 +49,6 @@ pub struct Party {
     // The data-in byte.
     pub input: Slot,
     pub request: Request,
-}
-
-impl Role {
-    pub const IDLE: Role = Role {
-        address: Address(0),
-        talk: false,
-        listen: false,
-        poll: false,
-    };
-}
-
-impl Request {
-    pub const IDLE: Request = Request {
-        live: 0,
-        saved: 0,
-        service: Service::Nprs,
-    };
 }
 
 impl Party {

@@ -1,63 +1,13 @@
 // A party with one part changed: the only functions that name all of its fields.
 ghost use mathlib.Core.Path.{_≡_};
-ghost use Rattle.party.specs.Parts.{unaddressed, withFlags, withPollMode, withRole, withControl, withSource, withAcceptor, withHeld, withInput, withRequest, isFull};
+ghost use Rattle.party.specs.Parts.{withRole, withControl, withSource, withAcceptor, withHeld, withInput, withRequest};
 use crate::Acceptor;
 use crate::Control;
 use crate::Party;
-use crate::Request;
-use crate::Role;
-use crate::Slot;
 use crate::Source;
-use message::Address;
-
-impl Slot {
-    pub fn is_full(self) -> bool
-        ensures { λ r. ⌜ r ≡ isFull self ⌝ }
-    {
-        match self {
-            Slot::Empty => false,
-            Slot::Full(_, _) => true,
-        }
-    }
-}
-
-impl Role {
-    // All flags off.
-    pub fn unaddressed(address: Address) -> Role
-        ensures { λ r. ⌜ r ≡ unaddressed address ⌝ }
-    {
-        Role {
-            address,
-            talk: false,
-            listen: false,
-            poll: false,
-        }
-    }
-
-    pub fn with_flags(self, talk: bool, listen: bool) -> Role
-        ensures { λ r. ⌜ r ≡ withFlags talk listen self ⌝ }
-    {
-        let address = self.address;
-        Role {
-            address,
-            talk,
-            listen,
-            poll: self.poll,
-        }
-    }
-
-    pub fn with_poll_mode(self, poll: bool) -> Role
-        ensures { λ r. ⌜ r ≡ withPollMode poll self ⌝ }
-    {
-        let address = self.address;
-        Role {
-            address,
-            talk: self.talk,
-            listen: self.listen,
-            poll,
-        }
-    }
-}
+use offer::Slot;
+use role::Role;
+use service::Request;
 
 impl Party {
     pub fn with_role(self, role: Role) -> Party

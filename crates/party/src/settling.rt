@@ -1,10 +1,8 @@
 // Attention and settling, of one party.
 ghost use mathlib.Core.Path.{_≡_};
-ghost use Rattle.party.specs.Settling.{attendedAcceptor, attended, sourceSettled, serviceSettled, liveSettled, requestSettled, settled};
+ghost use Rattle.party.specs.Settling.{attendedAcceptor, attended, sourceSettled, settled};
 use crate::Acceptor;
 use crate::Party;
-use crate::Request;
-use crate::Service;
 use crate::Source;
 
 impl Acceptor {
@@ -38,63 +36,6 @@ impl Source {
             }
         } else {
             Source::Sids
-        }
-    }
-}
-
-impl Service {
-    fn settled(self, rsv: bool, polled: bool) -> Service
-        ensures { λ r. ⌜ r ≡ serviceSettled self rsv polled ⌝ }
-    {
-        match self {
-            Service::Nprs => {
-                if rsv {
-                    if polled { Service::Nprs } else { Service::Srqs }
-                } else {
-                    Service::Nprs
-                }
-            }
-            Service::Srqs => {
-                if polled {
-                    Service::Aprs
-                } else if rsv {
-                    Service::Srqs
-                } else {
-                    Service::Nprs
-                }
-            }
-            Service::Aprs => {
-                if rsv {
-                    Service::Aprs
-                } else if polled {
-                    Service::Aprs
-                } else {
-                    Service::Nprs
-                }
-            }
-        }
-    }
-}
-
-impl Request {
-    // Unless polled, live becomes saved.
-    fn live_settled(self, polled: bool) -> u8
-        ensures { λ r. ⌜ r ≡ liveSettled polled self ⌝ }
-    {
-        if polled { self.live } else { self.saved }
-    }
-
-    // Then rsv, bit 64 of live, moves the service.
-    fn settled(self, polled: bool) -> Request
-        ensures { λ r. ⌜ r ≡ requestSettled polled self ⌝ }
-    {
-        let before = self.service;
-        let live = self.live_settled(polled);
-        let service = before.settled(live / 64 % 2 == 1, polled);
-        Request {
-            live,
-            saved: self.saved,
-            service,
         }
     }
 }

@@ -2,13 +2,13 @@
 -- Assumes nothing.
 use mathlib.Core.Path.{_≡_}
 use mathlib.Core.Bool.{Bool, true, false, cond}
-use mathlib.Core.List.{List, [], _∷_, _++_}
+use mathlib.Core.List.{[], _∷_, _++_}
 use Prim.Native.Nat.{ℕ, _+_, _/_, _≤_}
 use native.Mathlib.Omega.{arith}
 use lib.Dec.{ltb, lit≤}
 use lib.ListN.{length, length-append}
-use Rattle.party.specs.declared.Event.{Event}
-use Rattle.party.specs.declared.Event.the-variants as E
+use Rattle.event.specs.declared.Event.{Event}
+use Rattle.event.specs.declared.Event.the-variants as E
 use Rattle.bus.specs.declared.Answer.{Answer}
 use Rattle.effect.specs.declared.Refusal.{Refusal}
 use Rattle.effect.specs.declared.Refusal.the-variants as R

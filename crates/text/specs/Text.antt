@@ -10,10 +10,11 @@ use mathlib.Core.List.{List, [], _∷_, _++_}
 use lib.Dec.{ltb}
 use lib.ListN.{length}
 use lib.Seq.{sets}
-use Rattle.party.specs.declared.Event.{Event}
-use Rattle.party.specs.declared.Event.the-variants as ev
+use Rattle.event.specs.declared.Event.{Event}
+use Rattle.event.specs.declared.Event.the-variants as ev
 use Rattle.effect.specs.declared.Refusal.{Refusal}
-use Rattle.effect.specs.Words.{refusalNumber, eventWord}
+use Rattle.effect.specs.Words.{refusalNumber}
+use Rattle.event.specs.Words.{eventWord}
 use Rattle.bus.specs.declared.Answer.{Answer}
 
 -- What writing a text at a place does: after is before with the text stored from that place on, and r is the place behind it, still inside the buffer.

@@ -1,15 +1,15 @@
 // The text of an answer: one line of busrun's output, written into a lent buffer.
 // Each says what it wrote, where the next text goes, and that it stayed inside the buffer: `Wrote` in specs/Text.antt.
 ghost use mathlib.Core.Path.{_≡_};
-ghost use mathlib.Core.Bool.{Bool, true, false};
-ghost use Prim.Native.Nat.{ℕ, _+_, _<_, _≤_, _/_, _%_};
+ghost use mathlib.Core.Bool.{true, false};
+ghost use Prim.Native.Nat.{_+_, _<_, _≤_, _/_, _%_};
 ghost use lib.ListN.{length, take};
 ghost use Rattle.effect.specs.Words.{refusalNumber};
 ghost use Rattle.text.specs.Text.{Wrote, Put, digitOf, hexOf, decimalOf, numberText, wordText, byteText, hasByte, oneIf, headText, eventText, countsText, lineOf};
 ghost use Rattle.text.specs.declared.Word.{Word};
 use bus::Answer;
 use effect::Refusal;
-use party::Event;
+use event::Event;
 
 // Copies a word into the buffer at a place; the place after it.
 fn copy_in(word: &[u8], out: &mut [u8], at: usize) -> usize

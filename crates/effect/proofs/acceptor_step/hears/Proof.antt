@@ -11,8 +11,8 @@ hear-event-requires c κs = search needs
 say-requires : tie.Need-say-requires
 say-requires c κs = search needs
 
-heard-by-requires : tie.Need-heard-by-requires
-heard-by-requires c κs = search needs
+heard-requires : tie.Need-heard-requires
+heard-requires c κs = search needs
 
 with-acceptor-requires : tie.Need-with-acceptor-requires
 with-acceptor-requires c κs = search needs
@@ -25,7 +25,7 @@ returns c =
     simp (
       c .does .ensures,
       c .before .with-acceptor .ensures,
-      c .before .before .heard-by .ensures,
+      c .before .before .heard .ensures,
       c .before .before .before .say .ensures,
       c .before .before .before .before .hear-event .ensures,
       c .before .before .before .before .before .meaning-of .ensures,
@@ -38,7 +38,7 @@ hears-spec =
     meaning-of-requires
     hear-event-requires
     say-requires
-    heard-by-requires
+    heard-requires
     with-acceptor-requires
     does-requires
     returns)

@@ -2,8 +2,8 @@ use borrow.Author.Needs.{needs}
 use Rattle.effect.proofs.source_step.command_ended.Statement.{statement}
 use Rattle.effect.proofs.source_step.command_ended.Tie as tie
 
-heard-by-requires : tie.Need-heard-by-requires
-heard-by-requires c κs = search needs
+heard-requires : tie.Need-heard-requires
+heard-requires c κs = search needs
 
 with-source-requires : tie.Need-with-source-requires
 with-source-requires c κs = search needs
@@ -36,14 +36,14 @@ returns c =
       c .before .before .before .before .passes-control .ensures,
       c .before .before .before .before .before .meaning-of .ensures,
       c .before .before .before .before .before .before .with-source .ensures,
-      c .before .before .before .before .before .before .before .heard-by .ensures,
+      c .before .before .before .before .before .before .before .heard .ensures,
     )
 
 pub command-ended-spec : {M : Type 1} → statement M
 command-ended-spec =
     tie.close
     (tie.spec
-    heard-by-requires
+    heard-requires
     with-source-requires
     meaning-of-requires
     passes-control-requires

@@ -1,6 +1,6 @@
 use borrow.Author.Needs.{needs}
-use Rattle.party.proofs.Request.settled.Statement.{statement}
-use Rattle.party.proofs.Request.settled.Tie as tie
+use Rattle.service.proofs.Request.settled.Statement.{statement}
+use Rattle.service.proofs.Request.settled.Tie as tie
 
 live-settled-requires : tie.Need-live-settled-requires
 live-settled-requires c κs = search needs

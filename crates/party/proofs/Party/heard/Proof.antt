@@ -1,6 +1,6 @@
 use borrow.Author.Needs.{needs}
-use Rattle.effect.proofs.source_step.heard_by.Statement.{statement}
-use Rattle.effect.proofs.source_step.heard_by.Tie as tie
+use Rattle.party.proofs.Party.heard.Statement.{statement}
+use Rattle.party.proofs.Party.heard.Tie as tie
 
 meaning-of-requires : tie.Need-meaning-of-requires
 meaning-of-requires c κs = search needs
@@ -19,5 +19,5 @@ returns c =
       c .before .before .meaning-of .ensures,
     )
 
-pub heard-by-spec : {M : Type 1} → statement M
-heard-by-spec = tie.close (tie.spec meaning-of-requires heard-requires with-role-requires returns)
+pub heard-spec : {M : Type 1} → statement M
+heard-spec = tie.close (tie.spec meaning-of-requires heard-requires with-role-requires returns)

@@ -6,11 +6,11 @@ use mathlib.Core.Bool.{Bool, true}
 use Prim.Native.Nat.{ℕ, _<_}
 use borrow.Author.Tests.{eqb-true}
 use Rattle.message.specs.declared.Meaning.the-variants.{Other, Listen, Unlisten, Talk, Untalk, Sdc, Get, Tct, Dcl, Spe, Spd}
-use Rattle.party.specs.Types.{Address, Meaning, Role, Event}
-use Rattle.party.specs.Types.ev
-use Rattle.party.specs.Parts.{unaddressed, withFlags}
-use Rattle.party.specs.Hearing.{own, hear, hearEvent, passesControl}
-use Rattle.party.proofs.Logic.{no, cond-elim, cond-elim₂}
+use Rattle.role.specs.Types.{Address, Meaning, Role, Event}
+use Rattle.role.specs.Types.ev
+use Rattle.role.specs.Roles.{unaddressed, withFlags}
+use Rattle.role.specs.Hearing.{own, hear, hearEvent, passesControl}
+use Rattle.role.proofs.Logic.{no, cond-elim, cond-elim₂}
 
 -- What a build fixes of a role, and two roles that one build may not hold.
 abbrev pub nameOf : Role → ℕ

@@ -1,7 +1,7 @@
 use mathlib.Core.Path.{sym, _∙_}
 use borrow.Author.Needs.{needs}
-use Rattle.party.proofs.Role.heard.Statement.{statement}
-use Rattle.party.proofs.Role.heard.Tie as tie
+use Rattle.role.proofs.Role.heard.Statement.{statement}
+use Rattle.role.proofs.Role.heard.Tie as tie
 
 enum-told : tie.Need-enum-told
 enum-told c = search needs

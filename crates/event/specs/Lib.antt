@@ -1,0 +1,2 @@
+-- What an answer says has happened.
+pub mod Words

@@ -1,0 +1,2 @@
+-- A byte on offer.
+pub mod Offer

@@ -1,0 +1,3 @@
+-- Laws of roles, which the proofs of the crates above cite, and small steps of argument.
+pub mod Logic
+pub mod Roles

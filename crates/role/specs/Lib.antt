@@ -1,0 +1,4 @@
+-- A role, and hearing.
+pub mod Types
+pub mod Roles
+pub mod Hearing

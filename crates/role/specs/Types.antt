@@ -1,0 +1,6 @@
+-- The types that this crate speaks of, and their cases, under one name.
+pub use Rattle.message.specs.declared.Address.{Address}
+pub use Rattle.message.specs.declared.Meaning.{Meaning}
+pub use Rattle.event.specs.declared.Event.{Event}
+pub use Rattle.event.specs.declared.Event.the-variants as ev
+pub use Rattle.role.specs.declared.Role.{Role}

@@ -1,0 +1,2 @@
+-- The request for service.
+pub mod Service
