@@ -14,8 +14,9 @@ use Rattle.bus.specs.Types.ruling
 use Rattle.effect.specs.Words.{isAccepted}
 use Rattle.bus.specs.Record.{here, lines}
 use Rattle.effect.specs.Stands.{stands}
-use Rattle.effect.specs.Calls.{joining}
-use Rattle.effect.specs.Refusals.{ofParty, ofSwitch, isOn, isInside}
+use Rattle.host_calls.specs.HostCalls.{joining}
+use Rattle.refusals.specs.Refusals.{ofParty, ofSwitch, isInside}
+use Rattle.effect.specs.Calls.{isOn}
 use Rattle.bus.proofs.Invariant.{Inv}
 
 -- What a ruling of Accepted says of the test that it passed.

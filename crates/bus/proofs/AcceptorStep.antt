@@ -18,7 +18,8 @@ use Rattle.bus.specs.Types.ev
 use Rattle.bus.specs.Types.call-of
 use Rattle.bus.specs.Record.{here, lines}
 use Rattle.effect.specs.Stands.{stands}
-use Rattle.effect.specs.Step.{say, stay, move, taking, hearing, take, acceptorStep}
+use Rattle.effect.specs.Effects.{say, stay, move}
+use Rattle.acceptor_step.specs.AcceptorStep.{taking, hearing, take, acceptorStep}
 use Rattle.bus.specs.Following.{touch, follow}
 use Rattle.bus.specs.Delivery.{isPut, isEnd, isTake, isHostPut}
 use Rattle.bus.proofs.Invariant.{sentBy, isCommand, codeOf, waits, look, Inv, atnOf, quiet}

@@ -27,11 +27,11 @@ use Rattle.bus.specs.Types.call-of
 use Rattle.effect.specs.Words.{isAccepted}
 use Rattle.bus.specs.Record.{here, lines}
 use Rattle.effect.specs.Stands.{sendsCommand}
-use Rattle.effect.specs.Step.{say}
+use Rattle.effect.specs.Effects.{say, quiet}
 use Rattle.bus.specs.Settling.{settle, settleAs, deserted}
-use Rattle.effect.specs.Calls.{quiet, controlled, resetAcceptor, tell}
+use Rattle.host_calls.specs.HostCalls.{controlled, resetAcceptor, tell}
 use Rattle.bus.specs.Following.{alarm, touch, follow}
-use Rattle.effect.specs.Refusals.{inStandby, standbyRefusal}
+use Rattle.refusals.specs.Refusals.{inStandby, standbyRefusal}
 use Rattle.bus.specs.Machine.{refusal, accepted}
 use Rattle.bus.specs.Delivery.{wrote, held}
 use Rattle.bus.proofs.Invariant.{busy, active-busy, sentBy, isCommand, inAcrs, is-acrs, waits, look, Inv, atnOf, settle-inv}

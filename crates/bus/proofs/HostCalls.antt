@@ -13,10 +13,11 @@ use Rattle.bus.specs.Types.ev
 use Rattle.bus.specs.Types.call-of
 use Rattle.effect.specs.Words.{isAccepted}
 use Rattle.bus.specs.Record.{here, lines}
-use Rattle.effect.specs.Step.{say, does}
-use Rattle.effect.specs.Calls.{read, drop}
+use Rattle.effect.specs.Effects.{say, does}
+use Rattle.host_calls.specs.HostCalls.{read, drop}
 use Rattle.bus.specs.Following.{touch, follow}
-use Rattle.effect.specs.Refusals.{ofSwitch, isOn}
+use Rattle.refusals.specs.Refusals.{ofSwitch}
+use Rattle.effect.specs.Calls.{isOn}
 use Rattle.bus.specs.Machine.{refusal, accepted}
 use Rattle.bus.proofs.Invariant.{Inv, atnOf}
 use Rattle.bus.proofs.Accepting.{if-not, known, switched}

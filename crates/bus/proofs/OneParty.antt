@@ -18,7 +18,7 @@ use Rattle.bus.specs.Types.call-of
 use Rattle.effect.specs.Words.{isAccepted}
 use Rattle.bus.specs.Record.{here}
 use Rattle.effect.specs.Stands.{stands}
-use Rattle.effect.specs.Step.{say, does, stay}
+use Rattle.effect.specs.Effects.{say, does, stay}
 use Rattle.bus.specs.Following.{touch}
 use Rattle.bus.specs.Machine.{judged}
 use Rattle.bus.specs.Delivery.{isPut, isEnd, isTake, isHostPut, isWrite, wrote}

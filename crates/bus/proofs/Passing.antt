@@ -21,7 +21,7 @@ use Rattle.bus.specs.Types.{Place, Party, Role, Idle, Active, Sgns, At, 
 use Rattle.bus.specs.Types.ev
 use Rattle.bus.specs.Types.call-of
 use Rattle.bus.specs.Record.{here, lines}
-use Rattle.effect.specs.Step.{say}
+use Rattle.effect.specs.Effects.{say}
 use Rattle.party.specs.Hearing.{heardBy}
 use Rattle.bus.specs.Following.{pass}
 use Rattle.bus.specs.Delivery.{held}

@@ -18,7 +18,8 @@ use Rattle.effect.specs.Words.{isAccepted}
 use Rattle.bus.specs.Record.{here, lines}
 use Rattle.effect.specs.Stands.{sendsCommand, senderSlot, left}
 use Rattle.bus.specs.Settling.{deserted}
-use Rattle.effect.specs.Refusals.{placeOf, ofParty, isInside, judge}
+use Rattle.effect.specs.Calls.{placeOf}
+use Rattle.refusals.specs.Refusals.{ofParty, isInside, judge}
 use Rattle.bus.specs.Machine.{refusal, refusalAt}
 
 slot-in : (i : ℕ) → ltb i 15 ≡ true → slot i ≡ i

@@ -22,7 +22,8 @@ use Rattle.bus.specs.Types.after
 use Rattle.bus.specs.Types.call-of
 use Rattle.bus.specs.Record.{here, lines}
 use Rattle.effect.specs.Stands.{ofCommand}
-use Rattle.effect.specs.Step.{say, does, stay, move, put, noacc, ready, passTo, ended, sourceStep}
+use Rattle.effect.specs.Effects.{say, does, stay, move}
+use Rattle.source_step.specs.SourceStep.{put, noacc, ready, passTo, ended, sourceStep}
 use Rattle.party.specs.Hearing.{heardBy}
 use Rattle.bus.specs.Following.{touch, follow}
 use Rattle.bus.specs.Delivery.{isPut, isEnd, isTake, isHostPut}

@@ -24,7 +24,7 @@ use Rattle.bus.specs.Types.ev
 use Rattle.bus.specs.Types.call-of
 use Rattle.bus.specs.Record.{here, refuse}
 use Rattle.effect.specs.Stands.{stands}
-use Rattle.effect.specs.Step.{say, does}
+use Rattle.effect.specs.Effects.{say, does}
 use Rattle.bus.specs.Settling.{settleAs, attend, deserted}
 use Rattle.bus.specs.Following.{touch}
 use Rattle.bus.specs.Delivery.{isPut, isEnd, isTake, isHostPut, wrote, held}

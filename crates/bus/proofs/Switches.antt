@@ -24,10 +24,11 @@ use Rattle.bus.specs.Types.call-of
 use Rattle.effect.specs.Words.{isAccepted}
 use Rattle.bus.specs.Record.{here, lines}
 use Rattle.effect.specs.Stands.{stands}
-use Rattle.effect.specs.Step.{say, does}
+use Rattle.effect.specs.Effects.{say, does}
 use Rattle.bus.specs.Following.{touch}
-use Rattle.effect.specs.Calls.{joining}
-use Rattle.effect.specs.Refusals.{ofSwitch, isOn, listenRefusal, talkRefusal}
+use Rattle.host_calls.specs.HostCalls.{joining}
+use Rattle.refusals.specs.Refusals.{ofSwitch, listenRefusal, talkRefusal}
+use Rattle.effect.specs.Calls.{isOn}
 use Rattle.bus.specs.Machine.{refusal, accepted}
 use Rattle.bus.specs.Delivery.{wrote}
 use Rattle.bus.proofs.Invariant.{isCommand, codeOf, waits, look, look-idle, same-heard, Inv, atnOf}

@@ -11,7 +11,7 @@ use Rattle.bus.specs.Types.{Idle, Active, Bus, Answer, After, Effect}
 use Rattle.bus.specs.Types.ev
 use Rattle.bus.specs.Types.after
 use Rattle.bus.specs.Record.{here}
-use Rattle.effect.specs.Step.{say}
+use Rattle.effect.specs.Effects.{say}
 use Rattle.bus.specs.Settling.{settle, attend}
 
 -- A call that changes party i: without attention, and with it ("a call that changes which party is active (or none)").

@@ -1,8 +1,8 @@
 -- The machine of document 01, from its front: what each call answers, and the bus after it, for every bus and every call.
 --
---   refusal     below           which refusal a call meets, in document 01's order: `judge` in crates/effect/specs/Refusals.antt
+--   refusal     below           which refusal a call meets, in document 01's order: `judge` in crates/refusals/specs
 --   accepted    below           if it meets none: an effect on its party, and what follows on that
---     effectOf  crates/effect   Step.antt (the source step, the acceptor step), Calls.antt (the host's calls)
+--     effectOf  crates/accepted/specs, over crates/source_step/specs, crates/acceptor_step/specs and crates/host_calls/specs; their words in crates/effect/specs
 --     follow    Following.antt  settling, attention, control that goes on, interface clear
 --               Settling.antt   attention and settling themselves
 --   build       Record.antt     the bus record, its lines, building
@@ -18,8 +18,9 @@ use lib.Dec.{eqb}
 use Rattle.parties.specs.Places.{otherTalker, isFound}
 use Rattle.effect.specs.Words.{isAccepted}
 use Rattle.effect.specs.Stands.{sendsCommand}
-use Rattle.effect.specs.Refusals.{placeOf, isInside, judge}
-use Rattle.effect.specs.Effects.{effectOf}
+use Rattle.effect.specs.Calls.{placeOf}
+use Rattle.refusals.specs.Refusals.{isInside, judge}
+use Rattle.accepted.specs.Accepted.{effectOf}
 use Rattle.bus.specs.Types.{Lines, Bus, Answer, Call, Refusal}
 use Rattle.bus.specs.Record.{here, lines, refuse}
 use Rattle.bus.specs.Following.{follow}

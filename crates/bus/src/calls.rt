@@ -3,13 +3,13 @@ ghost use mathlib.Core.Path.{_≡_};
 ghost use Rattle.bus.specs.Machine.{call};
 use crate::Answer;
 use crate::Bus;
+use accepted::effect_of;
 use effect::Call;
-use effect::accepted::effect_of;
-use effect::refusals::is_inside;
-use effect::refusals::judged;
 use parties::every::scan;
 use parties::every::slot;
 use party::Place;
+use refusals::is_inside;
+use refusals::judged;
 
 impl Bus {
     // Any operation other than build.

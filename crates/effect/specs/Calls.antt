@@ -1,73 +1,41 @@
--- The host's calls, once they are accepted (document 01, "The host's calls"). Each is an effect on the party that it names.
+-- A call: the party that it names, and its switch.
 -- Assumes nothing.
 use Prim.Native.Nat.{ℕ}
-use mathlib.Core.Bool.{Bool, false, cond}
-use Rattle.party.specs.Parts.{heldBytes, withRole, withAcceptor, withHeld, withInput, withRequest}
-use Rattle.role.specs.Roles.{withFlags}
-use Rattle.party.specs.Driving.{isActive}
-use Rattle.party.specs.Clearing.{wiped, cleared}
-use Rattle.party.specs.Settling.{changeControl}
-use Rattle.parties.specs.Lines.{linesByte}
-use Rattle.effect.specs.Types.{Party, Acceptor, Aids, Anrs, Awns, Control, Active, Slot, Empty, Full, Lines, Standing, Effect}
-use Rattle.effect.specs.Types.ev
-use Rattle.effect.specs.Types.after
-use Rattle.effect.specs.Step.{say, does, then, stay}
+use mathlib.Core.Bool.{Bool, true}
+use lib.Dec.{eqb}
+use Rattle.parties.specs.Places.{place}
+use Rattle.effect.specs.Types.{Place, Call}
+use Rattle.effect.specs.Types.call-of
 
--- "An accepted host call other than read and lines has event none": an effect that drops d held bytes and says nothing more.
-abbrev pub quiet : ℕ → Standing → Party → Effect
-quiet d st p = does (say ev.None 0 false d) p st
+-- The party that a call names. Lines names none; it reads and changes nothing of the one here.
+abbrev pub placeOf : Call → Place
+placeOf (call-of.Step p) = p
+placeOf (call-of.Write p v e) = p
+placeOf (call-of.Read p) = p
+placeOf (call-of.PollRegister p v) = p
+placeOf (call-of.ListenOnly p on) = p
+placeOf (call-of.TalkOnly p on) = p
+placeOf (call-of.TakeControl p) = p
+placeOf (call-of.GoToStandby p) = p
+placeOf (call-of.InterfaceClear p) = p
+placeOf (call-of.Reset p) = p
+placeOf (call-of.Drop p) = p
+placeOf call-of.Lines = place 0
 
--- "Write data (byte, END): held."
-abbrev pub write : ℕ → Bool → Standing → Party → Effect
-write v e st p = quiet 0 st (withHeld (Full v e) p)
+-- Is the party that a call names there? "lines (no party)"
+abbrev pub isKnown : Call → Bool → Bool
+isKnown (call-of.Step p) inside = inside
+isKnown (call-of.Write p v e) inside = inside
+isKnown (call-of.Read p) inside = inside
+isKnown (call-of.PollRegister p v) inside = inside
+isKnown (call-of.ListenOnly p on) inside = inside
+isKnown (call-of.TalkOnly p on) inside = inside
+isKnown (call-of.TakeControl p) inside = inside
+isKnown (call-of.GoToStandby p) inside = inside
+isKnown (call-of.InterfaceClear p) inside = inside
+isKnown (call-of.Reset p) inside = inside
+isKnown (call-of.Drop p) inside = inside
+isKnown call-of.Lines inside = true
 
--- "Read data: gives data-in, empties it."
-abbrev pub read : Slot → Standing → Party → Effect
-read Empty st p = stay st p
-read (Full v e) st p = does (say ev.Read v e 0) (withInput Empty p) st
-
--- "Poll register: sets saved."
-abbrev pub pollRegister : ℕ → Standing → Party → Effect
-pollRegister v st p = quiet 0 st (withRequest (record { live = p .request .live; saved = v; service = p .request .service }) p)
-
--- "the acceptor goes to AWNS when DAV is true, else ANRS"
-abbrev pub joining : Bool → Acceptor
-joining dav = cond dav Awns Anrs
-
--- "Listen-only on: if listen was off and ATN is false, the acceptor goes to AWNS when DAV is true, else ANRS; off: to AIDS if ATN is false."
-abbrev pub listenAcceptor : Bool → Bool → Lines → Acceptor → Acceptor
-listenAcceptor on was l a = cond (l .atn) a (cond on (cond was a (joining (l .dav))) Aids)
-
-abbrev pub listenOnly : Bool → Lines → Standing → Party → Effect
-listenOnly on l st p = quiet 0 st (withRole (withFlags (p .role .talk) on (p .role)) (withAcceptor (listenAcceptor on (p .role .listen) l (p .acceptor)) p))
-
--- "Talk-only on, off: the flag."
-abbrev pub talkOnly : Bool → Standing → Party → Effect
-talkOnly on st p = quiet 0 st (withRole (withFlags on (p .role .listen) (p .role)) p)
-
--- "Take control: standby to active. Go to standby: active to standby." Attention follows, and what is held is dropped.
-abbrev pub controlled : Control → Standing → Party → Effect
-controlled c st p = then after.Attend (quiet (heldBytes p) st (changeControl c p))
-
--- "Drop: the held byte, if there is one, goes (dropped)."
-abbrev pub drop : Standing → Party → Effect
-drop st p = quiet (heldBytes p) st (withHeld Empty p)
-
--- "then, unless it was active, AIDS if ATN is false, else AWNS when DAV is true, else ANRS"
-abbrev pub resetAcceptor : Lines → Acceptor
-resetAcceptor l = cond (l .atn) (joining (l .dav)) Aids
-
--- "Reset: flags off, control idle, held byte dropped, data-in emptied, poll register kept": attention follows if it was active.
-abbrev pub resetAs : Bool → Lines → Standing → Party → Effect
-resetAs active l st p = cond active (then after.Attend (quiet (heldBytes p) st (wiped p))) (quiet (heldBytes p) st (withAcceptor (resetAcceptor l) (wiped p)))
-
-abbrev pub reset : Lines → Standing → Party → Effect
-reset l st p = resetAs (isActive p) l st p
-
--- "the system party active, its held byte dropped"; what is dropped in all is said when every party is cleared.
-abbrev pub clear : Standing → Party → Effect
-clear st p = then after.Clear (quiet 0 st (changeControl Active (cleared p)))
-
--- "The event lines carries the lines answer with END 0".
-abbrev pub tell : Lines → Standing → Party → Effect
-tell l st p = does (say ev.Lines (linesByte l) false 0) p st
+abbrev pub isOn : ℕ → Bool
+isOn x = eqb x 1

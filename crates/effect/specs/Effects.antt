@@ -1,22 +1,29 @@
--- What each call does to its own party and to what stands, once it is accepted.
+-- What a call does: the words for an effect on its own party and on what stands.
 -- Assumes nothing.
-use Rattle.effect.specs.Types.{Party, Standby, Active, Lines, Found, Standing, Call, Effect}
-use Rattle.effect.specs.Types.call-of
-use Rattle.effect.specs.Refusals.{isOn}
-use Rattle.effect.specs.Step.{effect}
-use Rattle.effect.specs.Calls.{write, read, pollRegister, listenOnly, talkOnly, controlled, drop, reset, clear, tell}
+use Prim.Native.Nat.{ℕ}
+use mathlib.Core.Bool.{Bool, false}
+use Rattle.effect.specs.Types.{Party, Standing, Event, Said, After, Effect}
+use Rattle.effect.specs.Types.ev
+use Rattle.effect.specs.Types.after
 
--- What an accepted call does to its party p and to what stands, with the lines as it finds them; f is the first party beside p that talks.
-abbrev pub effectOf : Lines → Found → Standing → Party → Call → Effect
-effectOf l f st p (call-of.Step i) = effect l f st i p
-effectOf l f st p (call-of.Write i v e) = write v (isOn e) st p
-effectOf l f st p (call-of.Read i) = read (p .input) st p
-effectOf l f st p (call-of.PollRegister i v) = pollRegister v st p
-effectOf l f st p (call-of.ListenOnly i on) = listenOnly (isOn on) l st p
-effectOf l f st p (call-of.TalkOnly i on) = talkOnly (isOn on) st p
-effectOf l f st p (call-of.TakeControl i) = controlled Active st p
-effectOf l f st p (call-of.GoToStandby i) = controlled Standby st p
-effectOf l f st p (call-of.InterfaceClear i) = clear st p
-effectOf l f st p (call-of.Reset i) = reset l st p
-effectOf l f st p (call-of.Drop i) = drop st p
-effectOf l f st p call-of.Lines = tell l st p
+abbrev pub say : Event → ℕ → Bool → ℕ → Said
+say x v e d = record { event = x; byte = v; end = e; dropped = d }
+
+-- An effect on party p on which settling follows, and no more.
+abbrev pub does : Said → Party → Standing → Effect
+does s p st = record { said = s; after = after.Settle; party = p; standing = st }
+
+-- The same effect, with something else to follow.
+abbrev pub then : After → Effect → Effect
+then x e = record { said = e .said; after = x; party = e .party; standing = e .standing }
+
+-- No event; "moved (a step that changed the party's source or acceptor state and has no other event)".
+abbrev pub stay : Standing → Party → Effect
+stay st p = does (say ev.None 0 false 0) p st
+
+abbrev pub move : Standing → Party → Effect
+move st p = does (say ev.Moved 0 false 0) p st
+
+-- "An accepted host call other than read and lines has event none": an effect that drops d held bytes and says nothing more.
+abbrev pub quiet : ℕ → Standing → Party → Effect
+quiet d st p = does (say ev.None 0 false d) p st

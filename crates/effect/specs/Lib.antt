@@ -1,8 +1,6 @@
--- A call: its refusal, and its effect on its own party.
+-- A call, its refusal, what stands on the bus, and what a call does.
 pub mod Types
 pub mod Words
-pub mod Stands
-pub mod Step
 pub mod Calls
-pub mod Refusals
+pub mod Stands
 pub mod Effects

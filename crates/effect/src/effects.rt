@@ -1,7 +1,6 @@
 // What a call does to its own party and to what stands.
 ghost use mathlib.Core.Path.{_≡_};
-ghost use Rattle.effect.specs.Step.{say, does, then, stay, move};
-ghost use Rattle.effect.specs.Calls.{quiet};
+ghost use Rattle.effect.specs.Effects.{say, does, then, stay, move, quiet};
 use crate::After;
 use crate::Effect;
 use crate::Said;

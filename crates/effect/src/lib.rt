@@ -1,15 +1,11 @@
-// A call: which refusal it meets, and what it does to its own party and to what stands.
+// A call, its refusal, what stands on the bus, and what a call does to its own party and to that.
 use event::Event;
 use offer::Kind;
 use party::Party;
 use party::Place;
 
-pub mod accepted;
-pub mod acceptor_step;
+pub mod calls;
 pub mod effects;
-pub mod host_calls;
-pub mod refusals;
-pub mod source_step;
 pub mod stands;
 
 // Document 01's standing byte: its sender, kind, value and END. It stands exactly while its sender is in STRS.

@@ -15,8 +15,8 @@ use Rattle.effect.specs.declared.After.{After}
 use Rattle.effect.specs.declared.After.the-variants as after
 use Rattle.effect.specs.declared.Refusal.the-variants as ruling
 use Rattle.effect.specs.Words.{isAccepted}
-use Rattle.effect.specs.Refusals.{placeOf}
-use Rattle.effect.specs.Effects.{effectOf}
+use Rattle.effect.specs.Calls.{placeOf}
+use Rattle.accepted.specs.Accepted.{effectOf}
 use Rattle.bus.specs.declared.Bus.{Bus}
 use Rattle.bus.specs.declared.Answer.{Answer}
 use Rattle.bus.specs.Record.{here, lines, placed, badBuild, built, noParties, refuse, build}

@@ -1,7 +1,7 @@
 use mathlib.Core.Path.{_≡_, refl, sym, ap, _∙_}
 use mathlib.Core.Bool.{true, false}
 use Rattle.effect.specs.Words.{isAccepted}
-use Rattle.effect.specs.Refusals.{placeOf}
+use Rattle.effect.specs.Calls.{placeOf}
 use Rattle.bus.specs.Record.{lines}
 use Rattle.bus.specs.Machine.{refusal}
 use Rattle.bus.proofs.Seats.{judge-seat, seat}

@@ -1,0 +1,3 @@
+-- What an accepted call does.
+pub mod Types
+pub mod Accepted

@@ -1,0 +1,3 @@
+-- The acceptor step.
+pub mod Types
+pub mod AcceptorStep

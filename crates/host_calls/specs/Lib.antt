@@ -1,0 +1,3 @@
+-- The host's calls.
+pub mod Types
+pub mod HostCalls

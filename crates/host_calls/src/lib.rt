@@ -1,0 +1,101 @@
+// What the host's calls do to their own party, once they are accepted.
+ghost use mathlib.Core.Path.{_≡_};
+ghost use Rattle.host_calls.specs.HostCalls.{read, pollRegister, listenAcceptor, listenOnly, controlled, resetAcceptor, reset};
+use effect::After;
+use effect::Effect;
+use effect::Said;
+use effect::Standing;
+use event::Event;
+use offer::Slot;
+use parties::Lines;
+use party::Acceptor;
+use party::Control;
+use party::Party;
+use service::Request;
+
+pub fn taken_out(input: Slot, st: Standing, p: Party) -> Effect
+    ensures { λ r. ⌜ r ≡ read input st p ⌝ }
+{
+    match input {
+        Slot::Empty => Effect::stay(st, p),
+        Slot::Full(v, e) => Effect::does(
+            Said::say(Event::Read, v, e, 0),
+            p.with_input(Slot::Empty),
+            st,
+        ),
+    }
+}
+
+pub fn registered(v: u8, st: Standing, p: Party) -> Effect
+    ensures { λ r. ⌜ r ≡ pollRegister v st p ⌝ }
+{
+    let was = p.request;
+    let service = was.service;
+    let request = Request {
+        live: was.live,
+        saved: v,
+        service,
+    };
+    Effect::quiet(0, st, p.with_request(request))
+}
+
+// The acceptor of who is told to listen or not: who joins while a byte stands waits for its end.
+fn listener(on: bool, was: bool, l: Lines, a: Acceptor) -> Acceptor
+    ensures { λ r. ⌜ r ≡ listenAcceptor on was l a ⌝ }
+{
+    if l.atn {
+        a
+    } else if on {
+        if was {
+            a
+        } else if l.dav {
+            Acceptor::Awns
+        } else {
+            Acceptor::Anrs
+        }
+    } else {
+        Acceptor::Aids
+    }
+}
+
+pub fn listening(on: bool, l: Lines, st: Standing, p: Party) -> Effect
+    ensures { λ r. ⌜ r ≡ listenOnly on l st p ⌝ }
+{
+    let role = p.role;
+    let acceptor = p.acceptor;
+    let q = p.with_acceptor(listener(on, role.listen, l, acceptor));
+    Effect::quiet(0, st, q.with_role(role.with_flags(role.talk, on)))
+}
+
+pub fn in_control(control: Control, st: Standing, p: Party) -> Effect
+    ensures { λ r. ⌜ r ≡ controlled control st p ⌝ }
+{
+    Effect::quiet(p.held_bytes(), st, p.change_control(control)).then(After::Attend)
+}
+
+fn reset_acceptor(l: Lines) -> Acceptor
+    ensures { λ r. ⌜ r ≡ resetAcceptor l ⌝ }
+{
+    if l.atn {
+        if l.dav {
+            Acceptor::Awns
+        } else {
+            Acceptor::Anrs
+        }
+    } else {
+        Acceptor::Aids
+    }
+}
+
+// Attention follows the reset of an active party.
+pub fn reset(l: Lines, st: Standing, p: Party) -> Effect
+    ensures { λ r. ⌜ r ≡ reset l st p ⌝ }
+{
+    let dropped = p.held_bytes();
+    let wiped = p.wiped();
+    if p.is_active() {
+        Effect::quiet(dropped, st, wiped).then(After::Attend)
+    } else {
+        Effect::quiet(dropped, st, wiped.with_acceptor(reset_acceptor(l)))
+    }
+}

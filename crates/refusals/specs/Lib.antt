@@ -1,0 +1,3 @@
+-- Which refusal a call meets.
+pub mod Types
+pub mod Refusals

@@ -1,0 +1,3 @@
+-- The source step.
+pub mod Types
+pub mod SourceStep
