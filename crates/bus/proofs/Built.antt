@@ -19,7 +19,8 @@ use Rattle.party.proofs.Settled.{newborn-still}
 use Rattle.parties.specs.Places.{at, each}
 use Rattle.parties.proofs.Places.{some-true, total-zero}
 use Rattle.bus.specs.Types.{Address, Place, Party, Strs, Aids, Acrs, Nothing, Said}
-use Rattle.bus.specs.Record.{here, placed, built, anyOver30, isAmong, twoEqual, badBuild}
+use Rattle.bus.specs.Record.{here, built}
+use Rattle.addresses.specs.Addresses.{placed, anyOver30, isAmong, twoEqual, badBuild}
 use Rattle.bus.specs.Settling.{settle}
 use Rattle.bus.specs.Delivery.{held}
 use Rattle.bus.proofs.Invariant.{busy, Pre, Inv, atnOf}

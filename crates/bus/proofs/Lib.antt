@@ -26,10 +26,9 @@
 --
 -- Built, Theorem, Reached. An accepted build gives the invariant, so `delivery` holds from every build. Reached has the facts of every reachable bus that later work cites.
 --
--- Scans has the laws of the loops over addresses; the folders hold the proofs of the functions in src/, each under its own name.
+-- The folders hold the proofs of the functions in src/, each under its own name.
 -- Assumes nothing.
 pub mod Examples
-pub mod Scans
 pub mod Invariant
 pub mod Change
 pub mod Putting

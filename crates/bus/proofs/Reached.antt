@@ -12,7 +12,8 @@ use Rattle.role.proofs.Logic.{no, test, cond-elim}
 use Rattle.party.proofs.Settled.{settled-source}
 use Rattle.bus.specs.Types.{Place, Party, Sids, Strs, Aids, Acrs, Kind, Command, Data, Status, Byte, Bus, Answer, Call}
 use Rattle.bus.specs.Types.ruling
-use Rattle.bus.specs.Record.{here, built, badBuild, build}
+use Rattle.bus.specs.Record.{here, built, build}
+use Rattle.addresses.specs.Addresses.{badBuild}
 use Rattle.bus.specs.Machine as m
 use Rattle.bus.proofs.Invariant.{sentBy, ofStatus, ofData, standsOf, Inv, atnOf, quiet}
 use Rattle.bus.proofs.Putting.{source-unique}

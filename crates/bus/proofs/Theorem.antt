@@ -12,7 +12,8 @@ use Rattle.role.proofs.Logic.{no, cond-elim}
 use Rattle.bus.specs.Types.{Party, Active, Standing, Nothing, Byte, Bus, Answer, Call}
 use Rattle.bus.specs.Types.ruling
 use Rattle.bus.specs.Types.call-of
-use Rattle.bus.specs.Record.{here, refuse, built, badBuild}
+use Rattle.bus.specs.Record.{here, refuse, built}
+use Rattle.addresses.specs.Addresses.{badBuild}
 use Rattle.effect.specs.Stands.{stands}
 use Rattle.bus.specs.Machine as m
 use Rattle.bus.specs.Delivery.{Moment, Delivered, Delivery, moment, busAt, answerAt, held}

@@ -19,7 +19,8 @@ use Rattle.effect.specs.Calls.{placeOf}
 use Rattle.accepted.specs.Accepted.{effectOf}
 use Rattle.bus.specs.declared.Bus.{Bus}
 use Rattle.bus.specs.declared.Answer.{Answer}
-use Rattle.bus.specs.Record.{here, lines, placed, badBuild, built, noParties, refuse, build}
+use Rattle.bus.specs.Record.{here, lines, built, noParties, refuse, build}
+use Rattle.addresses.specs.Addresses.{placed, badBuild}
 use Rattle.bus.specs.Following.{followed}
 use Rattle.bus.specs.Machine.{call, refusal, accepted}
 use Rattle.run.specs.Script.{orderOf, obey, buildFrom, countUp}

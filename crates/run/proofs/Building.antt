@@ -1,16 +1,15 @@
 -- A build's addresses: how many they are, the first of fifteen, and two ways in which they make no bus.
 -- Assumes nothing.
-use mathlib.Core.Path.{_≡_, refl, sym, ap, _∙_}
+use mathlib.Core.Path.{_≡_, refl, ap}
 use mathlib.Core.Bool.{Bool, true, false, _||_}
-use mathlib.Core.List.{List, [], _∷_}
+use mathlib.Core.List.{List, _∷_}
 use Prim.Native.Nat.{ℕ, zero, suc, _+_, _≤_, _<_}
 use native.Mathlib.Omega.{arith}
-use lib.Dec.{ltb, eqb}
 use lib.ListN.{length, take}
-use borrow.Author.Tests.{lt-ltb, le-ltb, ne-eqb}
+use borrow.Author.Tests.{lt-ltb}
 use Rattle.party.specs.declared.Place.{Place}
 use Rattle.effect.specs.declared.Refusal.the-variants as ruling
-use Rattle.bus.specs.Record.{build, refuse, noParties, badBuild, anyOver30, twoEqual}
+use Rattle.bus.specs.Record.{build, refuse, noParties}
 use Rattle.run.specs.Script.{countUp}
 
 pub length-up : (n a : ℕ) → length (countUp n a) ≡ n

@@ -6,10 +6,10 @@ use native.Mathlib.Omega.{arith}
 use lib.ListN.{length, getD, drop, length-drop}
 use lib.Seq.{take-all}
 use borrow.Author.Needs.{needs}
-use Rattle.bus.specs.Record.{isAmong, twoEqual}
-use Rattle.bus.proofs.Scans.{scan-turn, scan-done}
-use Rattle.bus.proofs.building.two_equal.Statement.{statement}
-use Rattle.bus.proofs.building.two_equal.Tie as tie
+use Rattle.addresses.specs.Addresses.{isAmong, twoEqual}
+use Rattle.addresses.proofs.Scans.{scan-turn, scan-done}
+use Rattle.addresses.proofs.two_equal.Statement.{statement}
+use Rattle.addresses.proofs.two_equal.Tie as tie
 
 abbrev Inv-loop : tie.InvT-loop
 Inv-loop addresses found₀ i₀ found i = (i ≤ length addresses) × ((found || twoEqual (drop i addresses)) ≡ twoEqual addresses)

@@ -1,8 +1,8 @@
 use borrow.Author.Tests.{eq-eqb, ne-eqb, lt-ltb, le-ltb}
 use mathlib.Core.Path.{sym, _∙_}
 use borrow.Author.Needs.{needs}
-use Rattle.bus.proofs.building.is_bad.Statement.{statement}
-use Rattle.bus.proofs.building.is_bad.Tie as tie
+use Rattle.addresses.proofs.is_bad.Statement.{statement}
+use Rattle.addresses.proofs.is_bad.Tie as tie
 
 returns : tie.Need-returns
 returns c = simp (eq-eqb _ 0 (c .if1 .taken))

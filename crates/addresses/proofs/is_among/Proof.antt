@@ -6,10 +6,10 @@ use native.Mathlib.Omega.{arith}
 use lib.Dec.{eqb}
 use lib.ListN.{length, drop}
 use borrow.Author.Needs.{needs}
-use Rattle.bus.specs.Record.{isAmong}
-use Rattle.bus.proofs.Scans.{scan-turn, scan-done}
-use Rattle.bus.proofs.building.is_among.Statement.{statement}
-use Rattle.bus.proofs.building.is_among.Tie as tie
+use Rattle.addresses.specs.Addresses.{isAmong}
+use Rattle.addresses.proofs.Scans.{scan-turn, scan-done}
+use Rattle.addresses.proofs.is_among.Statement.{statement}
+use Rattle.addresses.proofs.is_among.Tie as tie
 
 abbrev Inv-loop : tie.InvT-loop
 Inv-loop a addresses found₀ i₀ found i = (i ≤ length addresses) × ((found || isAmong a (drop i addresses)) ≡ isAmong a addresses)

@@ -11,8 +11,8 @@ use lib.Seq.{drop-cons, take-all}
 use Rattle.message.specs.Meaning.{address}
 use Rattle.party.specs.Parts.{newborn}
 use Rattle.parties.proofs.Loops.{or-assoc}
-use Rattle.bus.specs.Types.{Party}
-use Rattle.bus.specs.Record.{placed}
+use Rattle.party.specs.declared.Party.{Party}
+use Rattle.addresses.specs.Addresses.{placed}
 
 or-false : (x : Bool) → (x || false) ≡ x
 or-false true = refl

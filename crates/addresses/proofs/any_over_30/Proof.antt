@@ -6,10 +6,10 @@ use native.Mathlib.Omega.{arith}
 use lib.Dec.{ltb}
 use lib.ListN.{length, drop}
 use borrow.Author.Needs.{needs}
-use Rattle.bus.specs.Record.{anyOver30}
-use Rattle.bus.proofs.Scans.{scan-turn, scan-done}
-use Rattle.bus.proofs.building.any_over_30.Statement.{statement}
-use Rattle.bus.proofs.building.any_over_30.Tie as tie
+use Rattle.addresses.specs.Addresses.{anyOver30}
+use Rattle.addresses.proofs.Scans.{scan-turn, scan-done}
+use Rattle.addresses.proofs.any_over_30.Statement.{statement}
+use Rattle.addresses.proofs.any_over_30.Tie as tie
 
 abbrev Inv-loop : tie.InvT-loop
 Inv-loop addresses found₀ i₀ found i = (i ≤ length addresses) × ((found || anyOver30 (drop i addresses)) ≡ anyOver30 addresses)

@@ -1,0 +1,2 @@
+-- The laws of the loops over addresses.
+pub mod Scans

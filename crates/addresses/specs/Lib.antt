@@ -1,0 +1,2 @@
+-- The addresses of a build.
+pub mod Addresses
