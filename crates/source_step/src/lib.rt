@@ -28,11 +28,8 @@ fn put_up(kind: Kind, v: u8, e: bool, i: Place, p: Party) -> Effect
         value: v,
         end,
     };
-    Effect::does(
-        Said::say(kind.put_event(), v, end, 0),
-        p.parts(kind, Source::Strs),
-        standing,
-    )
+    let said = Said::say(kind.put_event(), v, end, 0);
+    Effect::does(said, p.parts(kind, Source::Strs), standing)
 }
 
 // Nobody is there to accept the byte.
