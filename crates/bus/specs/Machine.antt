@@ -5,7 +5,7 @@
 --     effectOf  crates/accepted/specs, over crates/source_step/specs, crates/acceptor_step/specs and crates/host_calls/specs; their words in crates/effect/specs
 --     follow    Following.antt  settling, attention, control that goes on, interface clear
 --               Settling.antt   attention and settling themselves
---   build       Record.antt     the bus record, its lines, building
+--   build       Record.antt     the bus record, its lines, building; which addresses make a bus: crates/addresses/specs
 --   one party   crates/party/specs (what it drives, hears, offers and settles to), over crates/role, crates/service and crates/offer
 --   parties     crates/parties/specs (some party, every party)
 --   the table   crates/message/specs (what a command byte means)

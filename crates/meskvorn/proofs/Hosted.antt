@@ -9,7 +9,8 @@ use Rattle.bus.specs.declared.Answer.{Answer}
 use Rattle.bus.specs.Record.{build}
 use Rattle.image.specs.Image.{rowsOf, busOf}
 use Rattle.image.proofs.Kept.{kept}
-use Rattle.meskvorn.specs.Host.{packed, Answered}
+use Rattle.packing.specs.Packing.{packed}
+use Rattle.meskvorn.specs.Host.{Answered}
 use Rattle.meskvorn.specs.Hosted.{Op, answerOf, Handed, none, then, Same, Hosted, HostedFromBuild}
 use Rattle.meskvorn.proofs.Sizes.{answer-size, build-size}
 

@@ -23,9 +23,9 @@ use Rattle.bus.specs.Record.{here, lines, built, noParties, refuse, build}
 use Rattle.addresses.specs.Addresses.{placed, badBuild}
 use Rattle.bus.specs.Following.{followed}
 use Rattle.bus.specs.Machine.{call, refusal, accepted}
-use Rattle.run.specs.Script.{orderOf, obey, buildFrom, countUp}
-use Rattle.run.specs.declared.Order.{Order}
-use Rattle.run.specs.declared.Order.the-variants as order
+use Rattle.orders.specs.Orders.{orderOf, obey, buildFrom, countUp}
+use Rattle.orders.specs.declared.Order.{Order}
+use Rattle.orders.specs.declared.Order.the-variants as order
 use Rattle.meskvorn.specs.Host.{answerTo}
 
 abbrev Full : Bus → Type 0

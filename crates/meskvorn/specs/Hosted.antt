@@ -9,7 +9,8 @@ use Rattle.bus.specs.declared.Bus.{Bus}
 use Rattle.bus.specs.declared.Answer.{Answer}
 use Rattle.bus.specs.Record.{build}
 use Rattle.image.specs.Image.{rowsOf, busOf}
-use Rattle.meskvorn.specs.Host.{packed, answerTo, Answered}
+use Rattle.packing.specs.Packing.{packed}
+use Rattle.meskvorn.specs.Host.{answerTo, Answered}
 
 -- An operation: the four numbers that meskvorn_call takes.
 pub record Op : Type 0 where

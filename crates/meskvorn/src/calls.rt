@@ -15,7 +15,7 @@ pub fn answer_to(b: Bus, op: u8, party: u8, value: u8, extra: u8) -> Answer
     if op == 0 {
         return b.refuse(Refusal::BadValue);
     }
-    run::obey(b, run::order_of(op, party, value, extra))
+    orders::obey(b, orders::order_of(op, party, value, extra))
 }
 
 // A build with the addresses in any order.

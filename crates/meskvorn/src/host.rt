@@ -5,9 +5,9 @@ ghost use Rattle.image.specs.Image.{busOf};
 ghost use Rattle.meskvorn.specs.Host.{answerTo, Answered};
 use crate::calls::answer_to;
 use crate::calls::built;
-use crate::packing::packed;
 use image::reading::bus_of;
 use image::writing::rows_of;
+use packing::packed;
 
 // A build. What the rows held before does not matter.
 #[no_mangle]

@@ -5,7 +5,6 @@ use run::Ran;
 
 pub mod calls;
 pub mod host;
-pub mod packing;
 
 // The number of bytes written; the largest number where there was no room.
 fn count_of(r: Ran) -> usize

@@ -1,8 +1,10 @@
 -- The example scripts give their text: computed.
 -- Assumes nothing.
 use mathlib.Core.Path.{refl}
-use Rattle.text.specs.Text.{codes, decimalOf, numberText, wordText, byteText, headText, eventText, countsText, lineOf}
-use Rattle.run.specs.Script.{orderOf, countUp, buildFrom, obey, answerTo}
+use Rattle.words.specs.Words.{codes, wordText}
+use Rattle.text.specs.Text.{decimalOf, numberText, byteText, headText, eventText, countsText, lineOf}
+use Rattle.orders.specs.Orders.{orderOf, countUp, buildFrom, obey}
+use Rattle.run.specs.Script.{answerTo}
 use Rattle.run.specs.Run.{records, textFrom, textOf}
 use Rattle.run.specs.Examples.{Holds}
 

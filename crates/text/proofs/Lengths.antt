@@ -13,7 +13,8 @@ use Rattle.bus.specs.declared.Answer.{Answer}
 use Rattle.effect.specs.declared.Refusal.{Refusal}
 use Rattle.effect.specs.declared.Refusal.the-variants as R
 use Rattle.effect.specs.Words.{refusalNumber}
-use Rattle.text.specs.Text.{digitOf, decimalOf, numberText, codes, wordText, byteText, hasByte, oneIf, headText, eventText, countsText, lineOf}
+use Rattle.text.specs.Text.{digitOf, decimalOf, numberText, byteText, oneIf, headText, eventText, countsText, lineOf}
+use Rattle.words.specs.Words.{codes, wordText, hasByte}
 
 at-most-five : (a b c d e : ℕ) (p q r s : Bool) → length (cond p (a ∷ []) (cond q (b ∷ a ∷ []) (cond r (c ∷ b ∷ a ∷ []) (cond s (d ∷ c ∷ b ∷ a ∷ []) (e ∷ d ∷ c ∷ b ∷ a ∷ []))))) ≤ 5
 at-most-five a b c d e true q r s = lit≤ tt

@@ -2,19 +2,16 @@
 -- END, dropped, broken" (document 01, "The bus script"); a space between two, and a newline at the end.
 -- Assumes nothing.
 use Prim.Native.Nat.{ℕ, _+_, _/_, _%_, _≤_, _<_}
-use Prim.Native.Char.{code}
-use Prim.Native.String.{String, [] as []ˢ, _∷_ as _∷ˢ_}
 use mathlib.Core.Path.{_≡_}
-use mathlib.Core.Bool.{Bool, true, false, cond}
+use mathlib.Core.Bool.{Bool, cond}
 use mathlib.Core.List.{List, [], _∷_, _++_}
 use lib.Dec.{ltb}
 use lib.ListN.{length}
 use lib.Seq.{sets}
 use Rattle.event.specs.declared.Event.{Event}
-use Rattle.event.specs.declared.Event.the-variants as ev
 use Rattle.effect.specs.declared.Refusal.{Refusal}
 use Rattle.effect.specs.Words.{refusalNumber}
-use Rattle.event.specs.Words.{eventWord}
+use Rattle.words.specs.Words.{wordText, hasByte}
 use Rattle.bus.specs.declared.Answer.{Answer}
 
 -- What writing a text at a place does: after is before with the text stored from that place on, and r is the place behind it, still inside the buffer.
@@ -45,38 +42,12 @@ decimalOf n =
 unfoldable pub numberText : ℕ → ℕ → List ℕ
 numberText n after = decimalOf n ++ (after ∷ [])
 
--- The codes of a text.
-unfoldable pub codes : String → List ℕ
-codes []ˢ = []
-codes (c ∷ˢ s) = code c ∷ codes s
-
--- The event's word, and a space.
-unfoldable pub wordText : Event → List ℕ
-wordText e = codes (eventWord e) ++ (32 ∷ [])
-
 -- A digit below 16, "lower-case".
 abbrev pub hexOf : ℕ → ℕ
 hexOf d = cond (ltb d 10) (48 + d) (87 + d)
 
 abbrev pub hexText : ℕ → List ℕ
 hexText b = hexOf (b / 16 % 16) ∷ hexOf (b % 16) ∷ 32 ∷ []
-
--- "the first two have no byte"
-abbrev pub hasByte : Event → Bool
-hasByte ev.None = false
-hasByte ev.Moved = false
-hasByte ev.Cmd = true
-hasByte ev.Data = true
-hasByte ev.Stat = true
-hasByte ev.Took = true
-hasByte ev.Heard = true
-hasByte ev.Clear = true
-hasByte ev.Trigger = true
-hasByte ev.Ended = true
-hasByte ev.Passed = true
-hasByte ev.Noacc = true
-hasByte ev.Read = true
-hasByte ev.Lines = true
 
 -- "byte in two lower-case hexadecimal digits (-- if the event has none)", and a space.
 unfoldable pub byteText : Bool → ℕ → List ℕ

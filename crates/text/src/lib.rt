@@ -1,15 +1,16 @@
 // The text of an answer: one line of busrun's output, written into a lent buffer.
 // Each says what it wrote, where the next text goes, and that it stayed inside the buffer: `Wrote` in specs/Text.antt.
 ghost use mathlib.Core.Path.{_≡_};
-ghost use mathlib.Core.Bool.{true, false};
 ghost use Prim.Native.Nat.{_+_, _<_, _≤_, _/_, _%_};
-ghost use lib.ListN.{length, take};
-ghost use Rattle.effect.specs.Words.{refusalNumber};
-ghost use Rattle.text.specs.Text.{Wrote, Put, digitOf, hexOf, decimalOf, numberText, wordText, byteText, hasByte, oneIf, headText, eventText, countsText, lineOf};
-ghost use Rattle.text.specs.declared.Word.{Word};
+ghost use lib.ListN.{length};
+ghost use Rattle.text.specs.Text.{Wrote, Put, digitOf, hexOf, decimalOf, numberText, byteText, oneIf, headText, eventText, countsText, lineOf};
+ghost use Rattle.words.specs.Words.{wordText};
 use bus::Answer;
 use effect::Refusal;
 use event::Event;
+use words::has_byte;
+use words::refusal_number;
+use words::word_of;
 
 // Copies a word into the buffer at a place; the place after it.
 fn copy_in(word: &[u8], out: &mut [u8], at: usize) -> usize
@@ -74,39 +75,6 @@ fn put_number(n: usize, after: u8, out: &mut [u8], at: usize) -> usize
     copy_in(&[after], out, next)
 }
 
-// The first len bytes are an event's word and a space. Words of one length let a single loop copy them all.
-pub struct Word {
-    pub text: [u8; 8],
-    pub len: usize,
-}
-
-fn padded(text: [u8; 8], len: usize) -> Word
-    ensures { λ r. ⌜ r ≡ record { text = text; len = len } ⌝ }
-{
-    Word { text, len }
-}
-
-fn word_of(e: Event) -> Word
-    ensures { λ r. ⌜ (r .len ≤ length (r .text)) × (take (r .len) (r .text) ≡ wordText e) ⌝ }
-{
-    match e {
-        Event::None => padded(*b"none    ", 5),
-        Event::Moved => padded(*b"moved   ", 6),
-        Event::Cmd => padded(*b"cmd     ", 4),
-        Event::Data => padded(*b"data    ", 5),
-        Event::Stat => padded(*b"stat    ", 5),
-        Event::Took => padded(*b"took    ", 5),
-        Event::Heard => padded(*b"heard   ", 6),
-        Event::Clear => padded(*b"clear   ", 6),
-        Event::Trigger => padded(*b"trigger ", 8),
-        Event::Ended => padded(*b"ended   ", 6),
-        Event::Passed => padded(*b"passed  ", 7),
-        Event::Noacc => padded(*b"noacc   ", 6),
-        Event::Read => padded(*b"read    ", 5),
-        Event::Lines => padded(*b"lines   ", 6),
-    }
-}
-
 fn put_word(e: Event, out: &mut [u8], at: usize) -> usize
     requires { ⌜ at + length (wordText e) ≤ length (now out) ⌝ }
     ensures { λ r. ⌜ Wrote (now (out .entry)) at (wordText e) (now (out .exit)) r ⌝ }
@@ -125,27 +93,6 @@ fn hex(n: u8) -> u8
     if d < 10 { 48 + d } else { 87 + d }
 }
 
-fn has_byte(e: Event) -> bool
-    ensures { λ r. ⌜ r ≡ hasByte e ⌝ }
-{
-    match e {
-        Event::None => false,
-        Event::Moved => false,
-        Event::Cmd => true,
-        Event::Data => true,
-        Event::Stat => true,
-        Event::Took => true,
-        Event::Heard => true,
-        Event::Clear => true,
-        Event::Trigger => true,
-        Event::Ended => true,
-        Event::Passed => true,
-        Event::Noacc => true,
-        Event::Read => true,
-        Event::Lines => true,
-    }
-}
-
 fn put_byte(has: bool, b: u8, out: &mut [u8], at: usize) -> usize
     requires { ⌜ at + length (byteText has b) ≤ length (now out) ⌝ }
     ensures { λ r. ⌜ Wrote (now (out .entry)) at (byteText has b) (now (out .exit)) r ⌝ }
@@ -154,25 +101,6 @@ fn put_byte(has: bool, b: u8, out: &mut [u8], at: usize) -> usize
         return copy_in(&[hex(b / 16), hex(b), b' '], out, at);
     }
     copy_in(b"-- ", out, at)
-}
-
-// The number of a refusal, 0 for an accepted call.
-pub fn refusal_number(r: Refusal) -> u8
-    ensures { λ n. ⌜ n ≡ refusalNumber r ⌝ }
-{
-    match r {
-        Refusal::Accepted => 0,
-        Refusal::NoParty => 1,
-        Refusal::BadBuild => 2,
-        Refusal::BadValue => 3,
-        Refusal::Role => 4,
-        Refusal::Attention => 5,
-        Refusal::Talker => 6,
-        Refusal::Standing => 7,
-        Refusal::Full => 8,
-        Refusal::Empty => 9,
-        Refusal::Record => 10,
-    }
 }
 
 fn one_if(b: bool) -> usize

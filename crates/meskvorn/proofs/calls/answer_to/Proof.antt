@@ -1,7 +1,7 @@
 use mathlib.Core.Path.{ap, _∙_}
 use borrow.Author.Needs.{needs}
 use borrow.Author.Tests.{eq-eqb, ne-eqb}
-use Rattle.run.specs.Script.{obey}
+use Rattle.orders.specs.Orders.{obey}
 use Rattle.meskvorn.specs.Host.{answerTo}
 use Rattle.meskvorn.proofs.calls.answer_to.Statement.{statement}
 use Rattle.meskvorn.proofs.calls.answer_to.Tie as tie

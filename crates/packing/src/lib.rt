@@ -1,10 +1,10 @@
 // An answer as a number, which every host language takes.
 ghost use mathlib.Core.Path.{_≡_};
-ghost use Rattle.meskvorn.specs.Host.{eventNumber, bytes, packed};
+ghost use Rattle.packing.specs.Packing.{eventNumber, bytes, packed};
 use bus::Answer;
 use event::Event;
 use party::clearing::one;
-use text::refusal_number;
+use words::refusal_number;
 
 fn event_number(e: Event) -> u8
     ensures { λ n. ⌜ n ≡ eventNumber e ⌝ }

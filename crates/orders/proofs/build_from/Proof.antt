@@ -1,6 +1,6 @@
 use borrow.Author.Needs.{needs}
-use Rattle.run.proofs.build_from.Statement.{statement}
-use Rattle.run.proofs.build_from.Tie as tie
+use Rattle.orders.proofs.build_from.Statement.{statement}
+use Rattle.orders.proofs.build_from.Tie as tie
 use mathlib.Core.Path.{sym, ap, _∙_}
 use mathlib.Core.List.{List}
 use Prim.Native.Nat.{ℕ}
@@ -8,8 +8,8 @@ use lib.ListN.{length, take}
 use Rattle.bus.specs.Record.{build}
 use native.Mathlib.Omega.{arith}
 use lib.Seq.{length-take-le}
-use Rattle.run.specs.Script.{buildFrom}
-use Rattle.run.proofs.Building.{take-up, length-up, too-many, too-high}
+use Rattle.orders.specs.Orders.{buildFrom}
+use Rattle.orders.proofs.Building.{take-up, length-up, too-many, too-high}
 
 slice-aggregate-build : tie.Need-slice-aggregate-build
 slice-aggregate-build c = search needs

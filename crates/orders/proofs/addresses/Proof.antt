@@ -1,8 +1,8 @@
 use borrow.Author.Needs.{needs}
-use Rattle.run.proofs.addresses.Statement.{statement}
-use Rattle.run.proofs.addresses.Tie as tie
+use Rattle.orders.proofs.addresses.Statement.{statement}
+use Rattle.orders.proofs.addresses.Tie as tie
 use native.Mathlib.Nat.{add-assoc}
-use Rattle.run.specs.Script.{countUp}
+use Rattle.orders.specs.Orders.{countUp}
 
 add-t2 : tie.Need-add-t2
 add-t2 c = search needs

@@ -1,8 +1,7 @@
-use borrow.Author.Needs.{needs}
-use Rattle.run.proofs.order_of.Statement.{statement}
-use Rattle.run.proofs.order_of.Tie as tie
+use Rattle.orders.proofs.order_of.Statement.{statement}
+use Rattle.orders.proofs.order_of.Tie as tie
 use borrow.Author.Tests.{ne-eqb}
-use Rattle.run.specs.Script.{orderOf}
+use Rattle.orders.specs.Orders.{orderOf}
 
 returns : tie.Need-returns
 unfolding orderOf

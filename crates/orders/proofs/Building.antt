@@ -10,7 +10,7 @@ use borrow.Author.Tests.{lt-ltb}
 use Rattle.party.specs.declared.Place.{Place}
 use Rattle.effect.specs.declared.Refusal.the-variants as ruling
 use Rattle.bus.specs.Record.{build, refuse, noParties}
-use Rattle.run.specs.Script.{countUp}
+use Rattle.orders.specs.Orders.{countUp}
 
 pub length-up : (n a : ℕ) → length (countUp n a) ≡ n
 unfolding countUp

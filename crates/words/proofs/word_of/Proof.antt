@@ -1,9 +1,9 @@
 use borrow.Author.Needs.{needs}
-use Rattle.text.proofs.word_of.Statement.{statement}
-use Rattle.text.proofs.word_of.Tie as tie
+use Rattle.words.proofs.word_of.Statement.{statement}
+use Rattle.words.proofs.word_of.Tie as tie
 use mathlib.Core.Path.{refl}
 use lib.Dec.{lit≤}
-use Rattle.text.specs.Text.{codes, wordText}
+use Rattle.words.specs.Words.{codes, wordText}
 
 enum-told : tie.Need-enum-told
 enum-told c = search needs

@@ -1,7 +1,7 @@
 use borrow.Author.Needs.{needs}
-use Rattle.run.proofs.obey.Statement.{statement}
-use Rattle.run.proofs.obey.Tie as tie
-use Rattle.run.specs.Script.{obey}
+use Rattle.orders.proofs.obey.Statement.{statement}
+use Rattle.orders.proofs.obey.Tie as tie
+use Rattle.orders.specs.Orders.{obey}
 
 enum-known-o : tie.Need-enum-known-o
 enum-known-o c = search needs

@@ -1,0 +1,2 @@
+-- Laws of a build's addresses.
+pub mod Building

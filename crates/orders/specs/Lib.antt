@@ -1,0 +1,2 @@
+-- What the numbers of a record ask for.
+pub mod Orders

@@ -1,0 +1,2 @@
+-- An answer as one number.
+pub mod Packing
