@@ -1,7 +1,5 @@
 -- The types of src/lib.rt and their cases, under one name.
 pub use Rattle.message.specs.declared.Address.{Address}
-pub use Rattle.message.specs.declared.Meaning.{Meaning}
-pub use Rattle.party.specs.declared.Place.{Place}
 pub use Rattle.party.specs.declared.Control.{Control}
 pub use Rattle.party.specs.declared.Control.the-variants.{Idle, Standby, Active}
 pub use Rattle.party.specs.declared.Source.{Source}
@@ -13,9 +11,6 @@ pub use Rattle.service.specs.declared.Service.the-variants.{Nprs, Srqs, Aprs}
 pub use Rattle.offer.specs.declared.Slot.{Slot}
 pub use Rattle.offer.specs.declared.Slot.the-variants.{Empty, Full}
 pub use Rattle.offer.specs.declared.Kind.{Kind}
-pub use Rattle.offer.specs.declared.Kind.the-variants.{Command, Data, Status}
-pub use Rattle.event.specs.declared.Event.{Event}
-pub use Rattle.event.specs.declared.Event.the-variants as ev
 pub use Rattle.role.specs.declared.Role.{Role}
 pub use Rattle.service.specs.declared.Request.{Request}
 pub use Rattle.party.specs.declared.Party.{Party}
