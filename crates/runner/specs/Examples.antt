@@ -1,0 +1,55 @@
+-- Worked examples of the runner, computed from the definitions.
+-- Assumes nothing.
+use Prim.Native.Nat.{ℕ}
+use mathlib.Core.Path.{_≡_}
+use mathlib.Core.Bool.{true}
+use mathlib.Core.List.{List, [], _∷_}
+use lib.Dec.{ltb}
+use lib.ListN.{replicate}
+use Rattle.party.specs.Parts.{one}
+use Rattle.parties.specs.Places.{place}
+use Rattle.bus.specs.Record.{build, noParties}
+use Rattle.bus.specs.Machine as m
+use Rattle.bus.specs.Delivery.{isEnd, tally, history}
+use Rattle.bus.specs.Examples.{Report, reported}
+use Rattle.runner.specs.Types.{Bus, Given}
+use Rattle.runner.specs.Types.ruling
+use Rattle.runner.specs.Types.ev
+use Rattle.runner.specs.Types.call-of
+use Rattle.runner.specs.Waiting.{byPlace, longestWaiting, turns}
+use Rattle.runner.specs.Runner.{steps, turnsOf, runner}
+use Rattle.runner.specs.Lists.{Act, call, run, acted}
+
+-- Of document 01's script the calls before the first step: party 0 talks, party 1 listens, 41 with END is held.
+abbrev before : List Act
+before = call (call-of.TalkOnly (place 0) 1) ∷ call (call-of.ListenOnly (place 1) 1) ∷ call (call-of.Write (place 0) 65 1) ∷ []
+
+abbrev after : List Act → Bus
+after xs = acted (λ b. byPlace) (build (5 ∷ 6 ∷ []) (place 0) .bus) xs
+
+-- Party 1 has taken a byte that was then broken off, and 41 waits: it has three turns to go before it is ready.
+abbrev slow : List Act
+slow = call (call-of.TalkOnly (place 0) 1) ∷ call (call-of.ListenOnly (place 1) 1) ∷ call (call-of.Write (place 0) 64 0) ∷ run 4
+    ∷ call (call-of.TalkOnly (place 0) 0) ∷ call (call-of.Read (place 1)) ∷ call (call-of.TalkOnly (place 0) 1) ∷ call (call-of.Write (place 0) 65 1) ∷ []
+
+-- How many bytes end in the first t turns of a run.
+abbrev ended : List Act → ℕ → ℕ
+ended xs t = tally (λ x. one (isEnd (x .answer .event))) (history (after xs) (steps (turnsOf byPlace (after xs) t)))
+
+abbrev 41-is-read : Report
+41-is-read = record { refusal = ruling.Accepted; event = ev.Read; byte = 65; end = true; dropped = 0; broken = 0 }
+
+pub record Examples : Type 0 where
+  -- the longest waiting, and of two that have waited equally long the lowest
+  pub longest : longestWaiting byPlace (2 ∷ 0 ∷ 5 ∷ 5 ∷ 1 ∷ []) ≡ 2
+  pub byNumber : turns byPlace 3 7 ≡ (0 ∷ 1 ∷ 2 ∷ 0 ∷ 1 ∷ 2 ∷ 0 ∷ [])
+  -- with ties to the highest place
+  pub fromTheTop : turns (λ x y. ltb y x) 3 7 ≡ (2 ∷ 1 ∷ 0 ∷ 2 ∷ 1 ∷ 0 ∷ 2 ∷ [])
+  -- document 01's script with its seven steps as a run of seven turns: the byte has ended, and 41 is read
+  pub script : runner byPlace (after before) 7 .counts ≡ (4 ∷ 3 ∷ replicate 13 0)
+  pub scriptEnds : reported (m.call (runner byPlace (after before) 7 .bus) (call-of.Read (place 1))) ≡ 41-is-read
+  -- five times n turns are not always enough to end a byte: here n is 2, and the eleventh turn does
+  pub notInFiveRounds : ended slow 10 ≡ 0
+  pub inOneTurnMore : ended slow 11 ≡ 1
+  -- "a bus of no parties is refused with 1, all counts 0"
+  pub nobody : runner byPlace noParties 65535 ≡ record { refusal = ruling.NoParty; counts = replicate 15 0; bus = noParties }

@@ -1,0 +1,40 @@
+-- Lists of calls and runs: "In a list of demand 3 a run stands for its steps" (document 02, Q-1).
+-- Assumes nothing.
+use Prim.Native.Nat.{ℕ}
+use mathlib.Core.Path.{_≡_}
+use mathlib.Core.List.{List, [], _∷_, _++_}
+use Rattle.bus.specs.Record.{build}
+use Rattle.bus.specs.Machine as m
+use Rattle.bus.specs.Delivery.{Delivered}
+use Rattle.runner.specs.Types.{Place, Bus, Call}
+use Rattle.runner.specs.Types.ruling
+use Rattle.runner.specs.Waiting.{TieOrder}
+use Rattle.runner.specs.Runner.{steps, turnsOf, runner}
+
+-- What a host does: a call, or a run of so many turns.
+pub data Act : Type 0 where
+  call : Call → Act
+  run : ℕ → Act
+
+-- The tie order may be one that is read off the bus.
+module _ (tie : Bus → TieOrder) where
+  -- The bus after a list of them.
+  abbrev pub acted : Bus → List Act → Bus
+  acted b [] = b
+  acted b (call c ∷ xs) = acted (m.call b c .bus) xs
+  acted b (run t ∷ xs) = acted (runner (tie b) b t .bus) xs
+
+  -- The list with each run replaced by its steps.
+  abbrev pub expanded : Bus → List Act → List Call
+  expanded b [] = []
+  expanded b (call c ∷ xs) = c ∷ expanded (m.call b c .bus) xs
+  expanded b (run t ∷ xs) = steps (turnsOf (tie b) b t) ++ expanded (runner (tie b) b t .bus) xs
+
+-- A list with runs leads to the bus that the list of its steps leads to.
+abbrev pub StandsForSteps : Type 0
+StandsForSteps = (tie : Bus → TieOrder) (b : Bus) (xs : List Act) → acted tie b xs ≡ m.run b (expanded tie b xs)
+
+-- Demand 3 for every list of calls and runs from a bus that an accepted build gave.
+abbrev pub DeliveryWithRuns : Type 0
+DeliveryWithRuns = (tie : Bus → TieOrder) (addresses : List ℕ) (system : Place) → build addresses system .refusal ≡ ruling.Accepted
+    → (xs : List Act) → Delivered (build addresses system .bus) (expanded tie (build addresses system .bus) xs)

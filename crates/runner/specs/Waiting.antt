@@ -1,0 +1,52 @@
+-- Who has the next turn (document 02, Q-1): "A runner steps the party that has waited longest for a turn, ties to the lowest party number".
+-- A wait is how many turns others have had since a party's own last one, or since the run began: `ws` has one for each place.
+-- Assumes nothing.
+use Prim.Native.Nat.{ℕ, zero, suc, _≤_, _<_}
+use mathlib.Core.Path.{_≡_}
+use mathlib.Core.Bool.{Bool, true, cond, _&&_, _||_}
+use mathlib.Core.List.{List, [], _∷_, map}
+use lib.Dec.{ltb, eqb}
+use lib.ListN.{length, getD, set, replicate}
+
+-- The tie order: does the first of two places come before the second where both have waited equally long?
+abbrev pub TieOrder : Type 0
+TieOrder = ℕ → ℕ → Bool
+
+-- "ties to the lowest party number"
+abbrev pub byPlace : TieOrder
+byPlace x y = ltb x y
+
+abbrev pub waitOf : List ℕ → ℕ → ℕ
+waitOf ws x = getD ws x 0
+
+-- Place x has waited longer than place y, or as long, and is before it in the tie order.
+abbrev pub goesBefore : TieOrder → List ℕ → ℕ → ℕ → Bool
+goesBefore tie ws x y = ltb (waitOf ws y) (waitOf ws x) || (eqb (waitOf ws x) (waitOf ws y) && tie x y)
+
+-- The longest waiting of the first n places.
+abbrev pub longestOf : TieOrder → List ℕ → ℕ → ℕ
+longestOf tie ws zero = 0
+longestOf tie ws (suc n) = let x = longestOf tie ws n in cond (goesBefore tie ws n x) n x
+
+-- "the party that has waited longest for a turn"
+abbrev pub longestWaiting : TieOrder → List ℕ → ℕ
+longestWaiting tie ws = longestOf tie ws (length ws)
+
+-- The same in so many words: nobody has waited longer, and whoever has waited as long is behind in the tie order.
+pub record WaitedLongest (tie : TieOrder) (ws : List ℕ) (x : ℕ) : Type 0 where
+  pub there : x < length ws
+  pub longest : (y : ℕ) → y < length ws → waitOf ws y ≤ waitOf ws x
+  pub ties : (y : ℕ) → y < length ws → (y ≡ x → ⊥) → waitOf ws y ≡ waitOf ws x → tie x y ≡ true
+
+-- Place x has had its turn, and all others have waited for one turn more.
+abbrev pub waited : ℕ → List ℕ → List ℕ
+waited x ws = set (map suc ws) x 0
+
+-- The places that have the next t turns.
+abbrev pub turnsFrom : TieOrder → ℕ → List ℕ → List ℕ
+turnsFrom tie zero ws = []
+turnsFrom tie (suc t) ws = longestWaiting tie ws ∷ turnsFrom tie t (waited (longestWaiting tie ws) ws)
+
+-- "Each run begins with all parties equally long waiting": t turns of n parties.
+abbrev pub turns : TieOrder → ℕ → ℕ → List ℕ
+turns tie n t = turnsFrom tie t (replicate n 0)
