@@ -4,4 +4,5 @@ pub mod Waiting
 pub mod RoundRobin
 pub mod Runner
 pub mod Lists
+pub mod Bound
 pub mod Examples
