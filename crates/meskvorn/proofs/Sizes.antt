@@ -1,4 +1,4 @@
--- No operation changes the number of places.
+-- No operation and no run changes the number of places.
 -- Assumes nothing.
 use Prim.Native.Nat.{ℕ, zero, suc}
 use mathlib.Core.Path.{_≡_, refl, ap}
@@ -22,7 +22,9 @@ use Rattle.bus.specs.declared.Answer.{Answer}
 use Rattle.bus.specs.Record.{here, lines, built, noParties, refuse, build}
 use Rattle.addresses.specs.Addresses.{placed, badBuild}
 use Rattle.bus.specs.Following.{followed}
-use Rattle.bus.specs.Machine.{call, refusal, accepted}
+use Rattle.bus.specs.Machine.{call, refusal, accepted, run}
+use Rattle.runner.specs.Waiting.{byPlace}
+use Rattle.runner.specs.Runner.{steps, turnsOf, runner}
 use Rattle.orders.specs.Orders.{orderOf, obey, buildFrom, countUp}
 use Rattle.orders.specs.declared.Order.{Order}
 use Rattle.orders.specs.declared.Order.the-variants as order
@@ -57,6 +59,13 @@ call-size b c h =
     let i = placeOf c .0 in
     let e = effectOf l (otherTalker (b .count) i (b .parties)) (b .standing) (here b i) c in
     either (isAccepted (refusal l b c)) (accepted l b c) (refuse (refusal l b c) b) (followed-size (e .after) (l .atn) b i e h) h
+
+run-size : (b : Bus) (cs : List Call) → Full b → Full (run b cs)
+run-size b [] h = h
+run-size b (c ∷ cs) h = run-size (call b c .bus) cs (call-size b c h)
+
+pub turns-size : (b : Bus) (t : ℕ) → Full b → Full (runner byPlace b t .bus)
+turns-size b t h = run-size b (steps (turnsOf byPlace b t)) h
 
 obey-size : (b : Bus) (o : Order) → Full b → Full (obey b o .bus)
 unfolding obey buildFrom

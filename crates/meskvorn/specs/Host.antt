@@ -12,6 +12,8 @@ use Rattle.bus.specs.Record.{refuse}
 use Rattle.image.specs.Image.{rowsOf}
 use Rattle.packing.specs.Packing.{packed}
 use Rattle.orders.specs.Orders.{orderOf, obey}
+use Rattle.effect.specs.Words.{refusalNumber}
+use Rattle.runner.specs.declared.Given.{Given}
 use Rattle.run.specs.declared.Ran.{Ran}
 use Rattle.run.specs.declared.Ran.the-variants.{Wrote, NoRoom}
 use Rattle.run.specs.Run.{RanAs}
@@ -33,3 +35,9 @@ answerTo b op party value extra = cond (eqb op 0) (refuse ruling.BadValue b) (ob
 pub record Answered (a : Answer) (after : List (List ℕ)) (n : ℕ) : Type 0 where
   pub said : n ≡ packed a
   pub rows : after ≡ rowsOf (a .bus)
+
+-- A host was given these turns: the number is the refusal's, the counts are those of the places, and the rows are those of the bus after them.
+pub record Gave (g : Given) (after : List (List ℕ)) (counts : List ℕ) (n : ℕ) : Type 0 where
+  pub said : n ≡ refusalNumber (g .refusal)
+  pub counted : counts ≡ g .counts
+  pub rows : after ≡ rowsOf (g .bus)

@@ -1,4 +1,4 @@
--- A list of operations, handed one by one to meskvorn_call with the rows that the last one left: the same as the machine does with its bus.
+-- A list of operations and runs, handed one by one to meskvorn_call and meskvorn_turns with the rows that the last one left: the same as the machine does with its bus.
 -- Assumes nothing.
 use Prim.Native.Nat.{ℕ}
 use mathlib.Core.Path.{_≡_}
@@ -8,9 +8,13 @@ use Rattle.party.specs.declared.Place.{Place}
 use Rattle.bus.specs.declared.Bus.{Bus}
 use Rattle.bus.specs.declared.Answer.{Answer}
 use Rattle.bus.specs.Record.{build}
+use Rattle.effect.specs.Words.{refusalNumber}
+use Rattle.runner.specs.declared.Given.{Given}
+use Rattle.runner.specs.Waiting.{byPlace}
+use Rattle.runner.specs.Runner.{runner}
 use Rattle.image.specs.Image.{rowsOf, busOf}
 use Rattle.packing.specs.Packing.{packed}
-use Rattle.meskvorn.specs.Host.{answerTo, Answered}
+use Rattle.meskvorn.specs.Host.{answerTo, Answered, Gave}
 
 -- An operation: the four numbers that meskvorn_call takes.
 pub record Op : Type 0 where
@@ -22,32 +26,48 @@ pub record Op : Type 0 where
 abbrev pub answerOf : Bus → Op → Answer
 answerOf b o = answerTo b (o .op) (o .party) (o .value) (o .extra)
 
--- The machine's bus after the operations, and the numbers of its answers.
-abbrev pub busAfter : Bus → List Op → Bus
+-- What a host asks for: an operation, or a run of so many turns; and what it is given: an answer's number, or a refusal's with the counts of the places.
+pub data Asked : Type 0 where
+  call : Op → Asked
+  run : ℕ → Asked
+
+pub data Reply : Type 0 where
+  answer : ℕ → Reply
+  turns : ℕ → List ℕ → Reply
+
+abbrev pub turnsOf : Bus → ℕ → Given
+turnsOf b t = runner byPlace b t
+
+-- The machine's bus after them, and what it has to say.
+abbrev pub busAfter : Bus → List Asked → Bus
 busAfter b [] = b
-busAfter b (o ∷ os) = busAfter (answerOf b o .bus) os
+busAfter b (call o ∷ xs) = busAfter (answerOf b o .bus) xs
+busAfter b (run t ∷ xs) = busAfter (turnsOf b t .bus) xs
 
-abbrev pub answers : Bus → List Op → List ℕ
-answers b [] = []
-answers b (o ∷ os) = packed (answerOf b o) ∷ answers (answerOf b o .bus) os
+abbrev pub replies : Bus → List Asked → List Reply
+replies b [] = []
+replies b (call o ∷ xs) = answer (packed (answerOf b o)) ∷ replies (answerOf b o .bus) xs
+replies b (run t ∷ xs) = turns (refusalNumber (turnsOf b t .refusal)) (turnsOf b t .counts) ∷ replies (turnsOf b t .bus) xs
 
--- A host handed the operations over, one by one, beginning with these rows; it was given these numbers, and has the last rows.
--- Of each call nothing is known but what meskvorn_call ensures.
-pub data Handed : List (List ℕ) → List Op → List ℕ → List (List ℕ) → Type 0 where
+-- A host asked for these, one by one, beginning with these rows; it was given these replies, and has the last rows.
+-- Nothing is known of each but what meskvorn_call and meskvorn_turns ensure.
+pub data Handed : List (List ℕ) → List Asked → List Reply → List (List ℕ) → Type 0 where
   none : {rows : List (List ℕ)} → Handed rows [] [] rows
-  then : {rows next last : List (List ℕ)} {o : Op} {os : List Op} {n : ℕ} {ns : List ℕ}
-      → Answered (answerOf (busOf rows) o) next n → Handed next os ns last → Handed rows (o ∷ os) (n ∷ ns) last
+  called : {rows next last : List (List ℕ)} {o : Op} {xs : List Asked} {n : ℕ} {rs : List Reply}
+      → Answered (answerOf (busOf rows) o) next n → Handed next xs rs last → Handed rows (call o ∷ xs) (answer n ∷ rs) last
+  ran : {rows next last : List (List ℕ)} {t : ℕ} {xs : List Asked} {n : ℕ} {counts : List ℕ} {rs : List Reply}
+      → Gave (turnsOf (busOf rows) t) next counts n → Handed next xs rs last → Handed rows (run t ∷ xs) (turns n counts ∷ rs) last
 
--- The numbers and the rows are the machine's.
-pub record Same (b : Bus) (os : List Op) (ns : List ℕ) (last : List (List ℕ)) : Type 0 where
-  pub said : ns ≡ answers b os
-  pub rows : last ≡ rowsOf (busAfter b os)
+-- The replies and the rows are the machine's.
+pub record Same (b : Bus) (xs : List Asked) (rs : List Reply) (last : List (List ℕ)) : Type 0 where
+  pub said : rs ≡ replies b xs
+  pub rows : last ≡ rowsOf (busAfter b xs)
 
--- Whoever keeps a bus of fifteen places as rows, and hands the rows to every call, has the machine.
+-- Whoever keeps a bus of fifteen places as rows, and hands the rows to every call and run, has the machine.
 abbrev pub Hosted : Type 0
-Hosted = (b : Bus) → length (b .parties) ≡ 15 → (os : List Op) (ns : List ℕ) (last : List (List ℕ)) → Handed (rowsOf b) os ns last → Same b os ns last
+Hosted = (b : Bus) → length (b .parties) ≡ 15 → (xs : List Asked) (rs : List Reply) (last : List (List ℕ)) → Handed (rowsOf b) xs rs last → Same b xs rs last
 
 -- So from every build on, also from a refused one, whatever the rows held before it.
 abbrev pub HostedFromBuild : Type 0
 HostedFromBuild = (addresses : List ℕ) (system : Place) (rows : List (List ℕ)) (n : ℕ) → Answered (build addresses system) rows n
-    → (os : List Op) (ns : List ℕ) (last : List (List ℕ)) → Handed rows os ns last → Same (build addresses system .bus) os ns last
+    → (xs : List Asked) (rs : List Reply) (last : List (List ℕ)) → Handed rows xs rs last → Same (build addresses system .bus) xs rs last

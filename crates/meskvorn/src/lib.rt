@@ -5,6 +5,7 @@ use run::Ran;
 
 pub mod calls;
 pub mod host;
+pub mod turns;
 
 // The number of bytes written; the largest number where there was no room.
 fn count_of(r: Ran) -> usize
