@@ -1,7 +1,7 @@
 /* The GPIB bus of document 01 for C and C++ programs. Link libmeskvorn.a, which `rt staticlib meskvorn` writes to target/staticlib.
  *
- * meskvorn_call, meskvorn_build and meskvorn_run are the proved functions, for pointers that are valid for their lengths and do not overlap.
- * The inline functions below them take the answer apart and take NULL as well; they are tested. */
+ * meskvorn_call, meskvorn_build, meskvorn_turns and meskvorn_run are the proved functions, for pointers that are valid for their lengths and do not
+ * overlap. The inline functions below them take the answer apart and take NULL as well; they are tested. */
 #ifndef MESKVORN_H
 #define MESKVORN_H
 
@@ -76,6 +76,9 @@ enum {
     MESKVORN_LINE_SRQ = 4
 };
 
+/* The most parties that a bus has. */
+enum { MESKVORN_MOST_PARTIES = 15 };
+
 /* What meskvorn_run gives where the text had no room. */
 #define MESKVORN_NO_ROOM ((size_t)-1)
 
@@ -94,6 +97,10 @@ typedef struct meskvorn_answer {
  * asks for, or the bus of no parties where it is refused. */
 uint64_t meskvorn_call(uint8_t (*rows)[16], uint8_t operation, uint8_t party, uint8_t value, uint8_t extra);
 uint64_t meskvorn_build(uint8_t (*rows)[16], const uint8_t *addresses, size_t count, uint8_t system);
+
+/* Gives so many turns on the bus, each to the party that has waited longest for one since the call began, of equals to the lowest. Writes how many
+ * turns each of the fifteen places had, and gives the refusal: 0, or 1 on the bus of no parties, where all counts are 0. */
+uint8_t meskvorn_turns(uint8_t (*rows)[16], uint16_t turns, uint16_t *counts);
 
 /* Runs a script and writes its text at the start of out, if out has 34 bytes for each record and part of one. Gives the number of bytes written. */
 size_t meskvorn_run(const uint8_t *script, size_t length, uint8_t *out, size_t room);
@@ -205,6 +212,16 @@ static inline meskvorn_answer meskvorn_bus_drop(meskvorn_bus *bus, uint8_t party
 static inline meskvorn_answer meskvorn_bus_lines(meskvorn_bus *bus)
 {
     return meskvorn_bus_call(bus, MESKVORN_OPERATION_LINES, 0, 0, 0);
+}
+
+/* meskvorn_turns, where counts has room for fifteen, or is NULL if they are not wanted. */
+static inline meskvorn_refusal meskvorn_bus_give_turns(meskvorn_bus *bus, uint16_t turns, uint16_t counts[MESKVORN_MOST_PARTIES])
+{
+    uint16_t unwanted[MESKVORN_MOST_PARTIES];
+    if (bus == NULL) {
+        return MESKVORN_REFUSAL_RECORD;
+    }
+    return (meskvorn_refusal)meskvorn_turns(bus->rows, turns, counts == NULL ? unwanted : counts);
 }
 
 /* meskvorn_run, where NULL with a length other than 0 is answered with MESKVORN_NO_ROOM. */

@@ -1,80 +1,6 @@
 /* The archive through meskvorn.h: document 01's examples P1 to P12 call by call, every operation and refusal, NULL, and buffers with no room.
  * What is expected is worked out from document 01, and written as busrun prints it: refusal, event, byte, END, dropped, broken. */
-#include <stdio.h>
-#include <stdlib.h>
-#include <string.h>
-
-#include "meskvorn.h"
-
-#define NONE "0 none -- 0 0 0"
-#define MOVED "0 moved -- 0 0 0"
-#define REFUSED(number) #number " none -- 0 0 0"
-
-enum { GUARD = 64, FILL = 0xa5 };
-
-/* The bus under test, with bytes on both sides that no call may touch. */
-static struct {
-    uint8_t before[GUARD];
-    meskvorn_bus bus;
-    uint8_t after[GUARD];
-} memory;
-
-static meskvorn_bus *const bus = &memory.bus;
-static meskvorn_bus last;
-static int checks;
-static int failures;
-
-static const uint8_t addresses[16] = {5, 6, 7, 8, 9, 10, 11, 12, 13, 14, 15, 16, 17, 18, 19, 20};
-
-static void check_at(int line, int holds, const char *what)
-{
-    checks++;
-    if (!holds) {
-        failures++;
-        printf("host/test.c:%d: %s\n", line, what);
-    }
-}
-
-#define CHECK(condition) check_at(__LINE__, (condition), #condition)
-
-static int filled(const uint8_t *bytes, size_t count)
-{
-    while (count > 0 && bytes[count - 1] == FILL) {
-        count--;
-    }
-    return count == 0;
-}
-
-/* An event without a byte has the byte 0. */
-static void print_answer(char text[64], meskvorn_answer answer)
-{
-    char byte[3] = "--";
-    if (answer.event > MESKVORN_EVENT_MOVED || answer.byte != 0) {
-        snprintf(byte, sizeof byte, "%02x", answer.byte);
-    }
-    snprintf(text, 64, "%d %s %s %d %d %d", (int)answer.refusal, meskvorn_event_word(answer.event), byte, answer.end, answer.dropped, answer.broken);
-}
-
-/* Also: nothing beside the bus was touched, and the bus itself not by a refusal, except that of a build. */
-static void expect_at(int line, const char *wanted, meskvorn_answer answer)
-{
-    char text[64];
-    print_answer(text, answer);
-    check_at(line, strcmp(text, wanted) == 0, text);
-    check_at(line, filled(memory.before, GUARD) && filled(memory.after, GUARD), "the bus keeps to its memory");
-    if (answer.refusal != MESKVORN_REFUSAL_ACCEPTED && answer.refusal != MESKVORN_REFUSAL_BADBUILD) {
-        check_at(line, memcmp(bus, &last, sizeof last) == 0, "a refused call changes nothing");
-    }
-    last = *bus;
-}
-
-#define EXPECT(wanted, call) expect_at(__LINE__, (wanted), (call))
-
-/* Parties at addresses 5, 6, ..; party 0 is the system party. */
-static void build(size_t parties)
-{
-    EXPECT(NONE, meskvorn_bus_build(bus, addresses, parties, 0));
-}
+#include "check.h"
 
 /* Party 0 talks, party 1 listens; the byte 41 with END stands. */
 static void stand(size_t parties)
@@ -379,7 +305,7 @@ static void any_content(void)
 
 int main(void)
 {
-    memset(&memory, FILL, sizeof memory);
+    begin();
     p1_and_p2();
     p3_joining_under_dav();
     p4_off_and_on_again();
@@ -395,6 +321,5 @@ int main(void)
     null_pointers();
     scripts();
     any_content();
-    printf("host/test.c: %d checks, %d failures\n", checks, failures);
-    return failures == 0 ? EXIT_SUCCESS : EXIT_FAILURE;
+    return report("host/test.c");
 }
