@@ -1,4 +1,7 @@
-//! What a call answers.
+//! What a call answers, and what a run does.
+
+/// The most parties that a bus has.
+pub const MOST_PARTIES: usize = 15;
 
 /// Document 01's table of refusals, by number.
 #[derive(Clone, Copy, PartialEq, Eq, Debug)]
@@ -113,4 +116,12 @@ impl Answer {
             broken,
         }
     }
+}
+
+/// What a run answers.
+#[derive(Clone, Copy, PartialEq, Eq, Debug)]
+pub struct Turns {
+    pub refusal: Refusal,
+    /// How many turns each party had, by its number; 0 where there is no party.
+    pub counts: [u16; MOST_PARTIES],
 }

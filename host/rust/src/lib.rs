@@ -2,11 +2,12 @@
 
 mod answer;
 
-pub use answer::{Answer, Event, Refusal};
+pub use answer::{Answer, Event, Refusal, Turns, MOST_PARTIES};
 
 extern "C" {
     fn meskvorn_call(rows: *mut [u8; 16], operation: u8, party: u8, value: u8, extra: u8) -> u64;
     fn meskvorn_build(rows: *mut [u8; 16], addresses: *const u8, count: usize, system: u8) -> u64;
+    fn meskvorn_turns(rows: *mut [u8; 16], turns: u16, counts: *mut u16) -> u8;
     fn meskvorn_run(script: *const u8, length: usize, out: *mut u8, room: usize) -> usize;
 }
 
@@ -28,8 +29,8 @@ pub enum Operation {
     Lines = 12,
 }
 
-/// A bus. Parties are numbered from 0.
-#[derive(Clone, Debug)]
+/// A bus. Parties are numbered from 0. Equal buses answer alike, whatever is called.
+#[derive(Clone, PartialEq, Eq, Debug)]
 pub struct Bus {
     rows: [[u8; 16]; 16],
 }
@@ -78,6 +79,18 @@ impl Bus {
     /// The party has its turn.
     pub fn step(&mut self, party: u8) -> Answer {
         self.of_party(Operation::Step, party)
+    }
+
+    /// Gives so many turns, each to the party that has waited longest for one since this call began, of equals to the lowest.
+    /// The bus of no parties is refused with 1.
+    pub fn give_turns(&mut self, turns: u16) -> Turns {
+        let mut counts = [0; MOST_PARTIES];
+        // The rows are this bus's own, and the counts are lent for the call.
+        let refusal = unsafe { meskvorn_turns(self.rows.as_mut_ptr(), turns, counts.as_mut_ptr()) };
+        Turns {
+            refusal: Refusal::ALL[usize::from(refusal)],
+            counts,
+        }
     }
 
     /// A byte for the party to send.
