@@ -4,11 +4,13 @@ mod answer;
 mod host;
 mod party;
 mod step;
+mod turns;
 
 pub use answer::{Answer, Event, Refusal};
 pub use party::{
     Acceptor, Control, Data, Party, Service, Source, ATN, DAV, EOI, NDAC, NRFD, RSV, SRQ, TCT,
 };
+pub use turns::{Turns, Waiting};
 
 pub const MOST_PARTIES: usize = 15;
 pub const MOST_ADDRESS: u8 = 30;
