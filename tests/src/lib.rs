@@ -1,6 +1,7 @@
 //! A second model of document 01, and the driver that compares it with a subject.
 
 pub mod bench;
+pub mod bound;
 pub mod builds;
 pub mod compare;
 pub mod compose;
