@@ -1,8 +1,11 @@
-//! Builds from address lists in any order, and calls by number: no record can ask for these.
+//! Builds from address lists in any order, calls by number, and runs on such buses: no record can ask
+//! for these.
 
+use crate::list;
 use crate::model::{Answer, Bus, MOST_PARTIES};
+use crate::plan::likely_turns;
 use crate::random::Random;
-use crate::script::{self, Call, BUILD, CLEAR, LINES, STEP, TALK, WRITE};
+use crate::script::{self, Call, Record, BUILD, CLEAR, LINES, STEP, TALK, WRITE};
 use crate::subject::Subject;
 use crate::words;
 
@@ -16,6 +19,7 @@ pub struct Compared {
     pub accepted: u64,
     pub refused: u64,
     pub calls: u64,
+    pub runs: u64,
 }
 
 type Done = Result<(), String>;
@@ -25,7 +29,7 @@ struct Pair<'a> {
     subject: &'a mut dyn Subject,
     bus: Bus,
     built: (Vec<u8>, u8),
-    calls: Vec<Call>,
+    calls: Vec<Record>,
     compared: Compared,
 }
 
@@ -35,13 +39,16 @@ impl Pair<'_> {
         if subject == model {
             return Ok(());
         }
+        self.differ(words::answer(&model), words::answer(&subject))
+    }
+
+    fn differ(&self, model: String, subject: String) -> Done {
         let (addresses, system) = &self.built;
         let mut story = format!("build {addresses:?}, system party {system}");
         for call in &self.calls {
-            story += &format!("\n{}", words::call(*call));
+            story += &format!("\n{}", words::piece(call));
         }
-        let (one, two) = (words::answer(&model), words::answer(&subject));
-        Err(format!("{story}: model {one}, subject {two}"))
+        Err(format!("{story}: model {model}, subject {subject}"))
     }
 
     fn build(&mut self, addresses: Vec<u8>, system: u8) -> Done {
@@ -55,10 +62,23 @@ impl Pair<'_> {
     }
 
     fn call(&mut self, call: Call) -> Done {
-        self.calls.push(call);
+        let [operation, party, value, extra] = call;
+        let record = script::record(operation, party, value, extra);
+        self.calls.push(record);
         let model = script::call(&mut self.bus, call);
         let subject = self.subject.call(call);
         self.agree(model, subject)
+    }
+
+    fn run(&mut self, turns: u16) -> Done {
+        self.calls.push(list::run(turns));
+        let model = self.bus.give_turns(turns);
+        let subject = self.subject.give_turns(turns);
+        self.compared.runs += 1;
+        if subject == model {
+            return Ok(());
+        }
+        self.differ(format!("{model:?}"), format!("{subject:?}"))
     }
 
     /// The system party sends the listen address of one party to its end. Talk-only then tells who
@@ -134,6 +154,7 @@ impl Pair<'_> {
             if self.bus.count > 0 {
                 self.address_one(random)?;
             }
+            self.run(likely_turns(&self.bus, random))?;
             self.any_calls(random)?;
         }
         Ok(())

@@ -2,21 +2,37 @@
 
 use std::panic::{catch_unwind, AssertUnwindSafe};
 
-use crate::ledger::Ledger;
-use crate::model::{Answer, Bus, Refusal};
-use crate::script::{self, Record, LONGEST, RECORD};
+use crate::list;
+use crate::model::{Answer, Turns};
+use crate::script::{self, LONGEST, RECORD};
 use crate::shrink;
 use crate::subject::Subject;
 use crate::tally::Tally;
+use crate::walk;
 use crate::words;
 
-/// Where a script shows a fault. Records are numbered from 1.
+/// Where a list shows a fault. Records and runs are numbered from 1; a run's steps have its number.
 #[derive(Clone, PartialEq, Debug)]
 pub enum Difference {
     Answer {
         number: usize,
         model: Answer,
         subject: Answer,
+    },
+    Turns {
+        number: usize,
+        model: Turns,
+        subject: Turns,
+    },
+    /// A run does not leave the bus that its steps leave.
+    Bus {
+        number: usize,
+    },
+    /// After how many turns the byte ended, if it did so within the bound.
+    Bound {
+        number: usize,
+        model: Option<usize>,
+        subject: Option<usize>,
     },
     Text {
         line: usize,
@@ -42,6 +58,21 @@ impl Difference {
                 words::answer(model),
                 words::answer(subject)
             ),
+            Difference::Turns {
+                number,
+                model,
+                subject,
+            } => format!("run {number}: model {model:?}, subject {subject:?}"),
+            Difference::Bus { number } => {
+                format!("run {number}: the subject's bus is not that of the steps")
+            }
+            Difference::Bound {
+                number,
+                model,
+                subject,
+            } => format!(
+                "the bound after record {number}: turns needed, model {model:?}, subject {subject:?}"
+            ),
             Difference::Text {
                 line,
                 model,
@@ -59,61 +90,19 @@ impl Difference {
     /// The number of the last record that matters, if it is known.
     pub fn last_record(&self) -> Option<usize> {
         match self {
-            Difference::Answer { number, .. } | Difference::Ledger { number, .. } => Some(*number),
-            _ => None,
+            Difference::Answer { number, .. }
+            | Difference::Turns { number, .. }
+            | Difference::Bus { number }
+            | Difference::Bound { number, .. }
+            | Difference::Ledger { number, .. } => Some(*number),
+            Difference::Text { .. } | Difference::Stopped => None,
         }
     }
 }
 
-/// One record through model, ledger and subject.
-fn compare_record(
-    bus: &mut Bus,
-    ledger: &mut Ledger,
-    subject: &mut dyn Subject,
-    number: usize,
-    record: Record,
-) -> Result<Answer, Difference> {
-    let before = *bus;
-    let model = script::run_record(bus, record);
-    let answer = subject.record(record);
-    if answer != model {
-        return Err(Difference::Answer {
-            number,
-            model,
-            subject: answer,
-        });
-    }
-    match ledger.enter(&before, record, &model, bus) {
-        Ok(()) => Ok(model),
-        Err(rule) => Err(Difference::Ledger { number, rule }),
-    }
-}
-
-/// Record by record on kept buses, up to the first bad one.
-fn compare_records(
-    subject: &mut dyn Subject,
-    script: &[u8],
-    tally: &mut Tally,
-) -> Result<(), Difference> {
-    let mut bus = Bus::new();
-    let mut ledger = Ledger::new();
-    subject.start();
-    for (place, chunk) in script.chunks(RECORD).enumerate() {
-        let Ok(record) = Record::try_from(chunk) else {
-            tally.count(&Answer::refused(Refusal::Record));
-            return Ok(());
-        };
-        let answer = compare_record(&mut bus, &mut ledger, subject, place + 1, record)?;
-        tally.count(&answer);
-        if answer.refusal == Refusal::Record {
-            return Ok(());
-        }
-    }
-    Ok(())
-}
-
-/// The text of the whole script.
-fn compare_text(subject: &mut dyn Subject, script: &[u8]) -> Result<(), Difference> {
+/// The text of the whole script that the list stands for.
+fn compare_text(subject: &mut dyn Subject, list: &[u8]) -> Result<(), Difference> {
+    let script = &list::as_script(list);
     let (mut model, mut other) = (Vec::new(), Vec::new());
     script::run(script, &mut model);
     subject.run_script(script, &mut other);
@@ -139,39 +128,39 @@ fn compare_text(subject: &mut dyn Subject, script: &[u8]) -> Result<(), Differen
     Ok(())
 }
 
-/// Compares one script in both ways; counts what came.
+/// Compares one list in both ways; counts what came.
 pub fn compare(
     subject: &mut dyn Subject,
-    script: &[u8],
+    list: &[u8],
     tally: &mut Tally,
 ) -> Result<(), Difference> {
     let both = || {
-        if script.len() <= LONGEST {
-            compare_records(subject, script, tally)?;
+        if list.len() <= LONGEST {
+            walk::compare_calls(subject, list, tally)?;
         }
-        compare_text(subject, script)
+        compare_text(subject, list)
     };
     let found = catch_unwind(AssertUnwindSafe(both)).unwrap_or(Err(Difference::Stopped));
-    tally.scripts += 1;
+    tally.lists += 1;
     found
 }
 
-/// A difference with the shortest script found for it.
+/// A difference with the shortest list found for it.
 #[derive(Debug)]
 pub struct Finding {
-    pub script: Vec<u8>,
+    pub list: Vec<u8>,
     pub difference: Difference,
 }
 
 impl Finding {
     pub fn print(&self) {
         println!("DIFFERENCE {}", self.difference.words());
-        if self.script.len() > LONGEST {
-            println!("a script of {} bytes", self.script.len());
+        if self.list.len() > LONGEST {
+            println!("a list of {} bytes", self.list.len());
             return;
         }
-        println!("script {}", words::hex(&self.script));
-        for (place, piece) in self.script.chunks(RECORD).enumerate() {
+        println!("list {}", words::hex(&self.list));
+        for (place, piece) in self.list.chunks(RECORD).enumerate() {
             println!(
                 "{:>5} {:<12} {}",
                 place + 1,
@@ -182,7 +171,7 @@ impl Finding {
     }
 }
 
-/// A run of many scripts against one subject.
+/// Many lists against one subject.
 pub struct Comparison<'a> {
     pub subject: &'a mut dyn Subject,
     pub tally: Tally,
@@ -196,11 +185,11 @@ impl<'a> Comparison<'a> {
         }
     }
 
-    /// Compares one script, and shortens it if it shows a difference.
-    pub fn script(&mut self, script: &[u8]) -> Result<(), Finding> {
-        match compare(self.subject, script, &mut self.tally) {
+    /// Compares one list, and shortens it if it shows a difference.
+    pub fn list(&mut self, list: &[u8]) -> Result<(), Finding> {
+        match compare(self.subject, list, &mut self.tally) {
             Ok(()) => Ok(()),
-            Err(first) => Err(shrink::shorten(self.subject, script, first)),
+            Err(first) => Err(shrink::shorten(self.subject, list, first)),
         }
     }
 }

@@ -1,5 +1,6 @@
-//! Writes scripts call by call beside a bus, so that a byte can be walked to its end.
+//! Writes lists call by call beside a bus, so that a byte can be walked to its end.
 
+use crate::list;
 use crate::model::{Answer, Bus, Event, MOST_PARTIES};
 use crate::script::{self, Record, STEP, WRITE};
 
@@ -18,6 +19,11 @@ impl Composer {
         let record = script::record(operation, party, value, extra);
         self.records.push(record);
         script::run_record(&mut self.bus, record)
+    }
+
+    pub fn run(&mut self, turns: u16) {
+        self.records.push(list::run(turns));
+        self.bus.give_turns(turns);
     }
 
     pub fn step(&mut self, party: u8) -> Answer {

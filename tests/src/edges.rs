@@ -1,5 +1,6 @@
-//! Tables run whole: builds, operations, places, heard bytes, poll registers, damaged scripts.
+//! Tables run whole: builds, operations, places, heard bytes, poll registers, runs, damaged scripts.
 
+use crate::bound::TURNS_A_PARTY;
 use crate::compare::{Comparison, Finding};
 use crate::compose::Composer;
 use crate::guided::Guided;
@@ -13,7 +14,7 @@ type Done = Result<(), Finding>;
 const SPE: u8 = 0x18;
 
 fn run_records(comparison: &mut Comparison, records: &[Record]) -> Done {
-    comparison.script(&records.concat())
+    comparison.list(&records.concat())
 }
 
 /// The worked script of document 01.
@@ -102,7 +103,7 @@ fn heard_bytes(comparison: &mut Comparison, guided: &mut Guided) -> Done {
                 composer.call(LISTEN, party, 1, 0);
             }
             composer.walk_until(Event::is_end);
-            comparison.script(guided.go_on(&composer.records, 12))?;
+            comparison.list(guided.go_on(&composer.records, 12))?;
         }
     }
     Ok(())
@@ -137,27 +138,87 @@ fn poll_registers(comparison: &mut Comparison) -> Done {
     Ok(())
 }
 
+/// A bus on which the talker has a byte for all others.
+fn offered(count: u8, talker: u8) -> Composer {
+    let mut composer = Composer::new();
+    composer.call(BUILD, 0, count, 3);
+    composer.call(TALK, talker, 1, 0);
+    for party in (0..count).filter(|&party| party != talker) {
+        composer.call(LISTEN, party, 1, 0);
+    }
+    composer.call(WRITE, talker, 0x41, 1);
+    composer
+}
+
+/// The last party talks; then a run, and calls of all sorts after it.
+fn one_run(comparison: &mut Comparison, guided: &mut Guided, count: u8, turns: u16) -> Done {
+    let mut composer = offered(count, count.saturating_sub(1));
+    composer.run(turns);
+    comparison.list(guided.go_on(&composer.records, 12))
+}
+
+/// Every number of parties with numbers of turns about their bounds; the most turns for some.
+fn runs(comparison: &mut Comparison, guided: &mut Guided) -> Done {
+    for count in 0..=15 {
+        let parties = u16::from(count);
+        let rounds = (0..8).flat_map(|round| round * parties..round * parties + 2);
+        for turns in rounds.chain([255, 256, 257, 1000]) {
+            one_run(comparison, guided, count, turns)?;
+        }
+    }
+    for count in [0, 2, 15] {
+        one_run(comparison, guided, count, u16::MAX)?;
+    }
+    Ok(())
+}
+
+/// A byte broken off after so many turns and read by whoever took it, then another for the same
+/// listeners, which may now be in any of their states: starts of the bound.
+fn after_a_broken_byte(comparison: &mut Comparison, count: u8, talker: u8, turns: u16) -> Done {
+    let mut composer = offered(count, talker);
+    composer.run(turns);
+    composer.call(TALK, talker, 0, 0);
+    for party in 0..count {
+        composer.call(READ, party, 0, 0);
+    }
+    composer.call(TALK, talker, 1, 0);
+    composer.call(WRITE, talker, 0x42, 0);
+    composer.run(TURNS_A_PARTY * u16::from(count));
+    run_records(comparison, &composer.records)
+}
+
+fn starts_of_the_bound(comparison: &mut Comparison) -> Done {
+    for count in [2, 3, 4, 7, 15] {
+        for talker in 0..count {
+            for turns in 0..5 * u16::from(count) {
+                after_a_broken_byte(comparison, count, talker, turns)?;
+            }
+        }
+    }
+    Ok(())
+}
+
 /// Tails of every length, wrong marks in every place, and scripts about the longest length.
 fn damaged_scripts(comparison: &mut Comparison, random: &mut Random) -> Done {
     let whole = worked_script();
     for length in 0..=whole.len() {
-        comparison.script(&whole[..length])?;
+        comparison.list(&whole[..length])?;
     }
     for place in 0..whole.len() {
         for wrong in [0, whole[place] ^ 1, 0x42, 0x47, 255] {
             let mut damaged = whole.clone();
             damaged[place] = wrong;
-            comparison.script(&damaged)?;
+            comparison.list(&damaged)?;
         }
     }
     for _ in 0..2000 {
         let bytes: Vec<u8> = (0..random.below(40)).map(|_| random.byte()).collect();
-        comparison.script(&bytes)?;
+        comparison.list(&bytes)?;
     }
     for extra in (0..=2 * RECORD).chain([1000, LONGEST]) {
         let mut long = whole.repeat(LONGEST / whole.len() + 2);
         long.resize(LONGEST - RECORD + extra, 0x47);
-        comparison.script(&long)?;
+        comparison.list(&long)?;
     }
     Ok(())
 }
@@ -167,5 +228,7 @@ pub fn run(comparison: &mut Comparison, seed: u64) -> Done {
     operations_and_places(comparison)?;
     heard_bytes(comparison, &mut Guided::new(seed))?;
     poll_registers(comparison)?;
+    runs(comparison, &mut Guided::new(seed))?;
+    starts_of_the_bound(comparison)?;
     damaged_scripts(comparison, &mut Random::new(seed))
 }

@@ -1,26 +1,30 @@
-//! Random scripts that look at the model's state to go where bytes stand.
+//! Random lists that look at the model's state to go where bytes stand.
 
 use std::collections::VecDeque;
 
+use crate::list;
 use crate::model::{Acceptor, Bus, Control, Event};
-use crate::plan::{any_party, controller, likely_command, likely_register, scenario, Goal};
+use crate::plan::{
+    any_party, controller, likely_command, likely_register, likely_turns, scenario, Goal,
+};
 use crate::random::Random;
 use crate::script::{self, Record, BUILD, CLEAR, LINES, LISTEN, POLL, READ, RESET, STANDBY};
 use crate::script::{STEP, TAKE, TALK, WRITE};
 
-/// How one script behaves, in times per thousand.
+/// How one list behaves, in times per thousand.
 #[derive(Clone, Copy)]
 struct Habits {
     disturb: usize,
     wild: usize,
     idle_steps: usize,
     reads: usize,
+    runs: usize,
 }
 
 pub struct Guided {
     random: Random,
     bus: Bus,
-    script: Vec<u8>,
+    list: Vec<u8>,
     plan: VecDeque<Goal>,
     habits: Habits,
 }
@@ -32,18 +36,19 @@ impl Guided {
             wild: 0,
             idle_steps: 0,
             reads: 0,
+            runs: 0,
         };
         Guided {
             random: Random::new(seed),
             bus: Bus::new(),
-            script: Vec::new(),
+            list: Vec::new(),
             plan: VecDeque::new(),
             habits,
         }
     }
 
-    /// The next script; most end well, some with a bad record.
-    pub fn script(&mut self) -> &[u8] {
+    /// The next list; most end well, some with a bad record.
+    pub fn list(&mut self) -> &[u8] {
         self.begin(&[]);
         self.draw_habits();
         self.opening();
@@ -53,7 +58,7 @@ impl Guided {
         if self.random.per_mille(120) {
             self.bad_ending();
         }
-        &self.script
+        &self.list
     }
 
     /// The records given, then `more` calls of all sorts, then the lines.
@@ -64,16 +69,17 @@ impl Guided {
             wild: 0,
             idle_steps: 250,
             reads: 500,
+            runs: 15,
         };
         for _ in 0..more {
             self.next_call();
         }
         self.call(script::record(LINES, 0, 0, 0));
-        &self.script
+        &self.list
     }
 
     fn begin(&mut self, records: &[Record]) {
-        self.script.clear();
+        self.list.clear();
         self.plan.clear();
         self.bus = Bus::new();
         for record in records {
@@ -88,6 +94,7 @@ impl Guided {
             wild: random.pick(&[0, 0, 0, 5, 30, 300]),
             idle_steps: random.pick(&[0, 20, 100, 400]),
             reads: random.pick(&[50, 300, 900]),
+            runs: random.pick(&[0, 0, 5, 20, 100]),
         };
     }
 
@@ -98,6 +105,10 @@ impl Guided {
         }
         while self.random.per_mille(60) {
             self.bad_build();
+        }
+        while self.random.per_mille(60) {
+            let run = self.run();
+            self.call(run);
         }
         self.good_build();
     }
@@ -146,16 +157,18 @@ impl Guided {
             record[self.random.below(2)] = self.random.byte();
         }
         let end = 1 + self.random.below(6);
-        self.script.extend_from_slice(&record[..end]);
+        self.list.extend_from_slice(&record[..end]);
     }
 
     fn call(&mut self, record: Record) {
-        script::run_record(&mut self.bus, record);
-        self.script.extend_from_slice(&record);
+        list::enter(&mut self.bus, record);
+        self.list.extend_from_slice(&record);
     }
 
     fn next_call(&mut self) {
-        let record = if self.random.per_mille(self.habits.wild) {
+        let record = if self.random.per_mille(self.habits.runs) {
+            self.run()
+        } else if self.random.per_mille(self.habits.wild) {
             self.wild_record()
         } else if self.random.per_mille(self.habits.disturb) {
             self.disturbance()
@@ -165,6 +178,10 @@ impl Guided {
             self.planned()
         };
         self.call(record);
+    }
+
+    fn run(&mut self) -> Record {
+        list::run(likely_turns(&self.bus, &mut self.random))
     }
 
     /// Any operation with any fields; seldom a build.

@@ -1,5 +1,6 @@
-//! What a guided script sets out to do: short lists of goals.
+//! What a guided list sets out to do: short lists of goals.
 
+use crate::bound::TURNS_A_PARTY;
 use crate::model::{Bus, Control};
 use crate::random::Random;
 use crate::script::{CLEAR, DROP, LISTEN, POLL, RESET, STANDBY, TAKE, TALK, WRITE};
@@ -83,6 +84,19 @@ pub fn likely_command(bus: &Bus, random: &mut Random) -> u8 {
 pub fn likely_register(random: &mut Random) -> u8 {
     let any = random.byte();
     random.pick(&[0x00, 0x01, 0x40, 0x41, 0x40, 0x41, 0xFF, 0xBF, any])
+}
+
+/// Turns for a run: about as many as a byte takes; now and then any number.
+pub fn likely_turns(bus: &Bus, random: &mut Random) -> u16 {
+    let (count, bound) = (bus.count, usize::from(TURNS_A_PARTY) * bus.count);
+    let turns = match random.below(8) {
+        0 => random.below(2),
+        1 => count,
+        2 => bound,
+        3 if random.per_mille(1) => 65_535 - random.below(2) * random.below(65_536),
+        _ => random.below(bound + 2),
+    };
+    turns as u16
 }
 
 type Scenario = fn(&Bus, &mut Random, &mut Vec<Goal>);

@@ -2,10 +2,10 @@
 
 use meskvorn::Bus;
 
-use crate::model::{Answer, Event, Refusal};
+use crate::model::{Answer, Event, Refusal, Turns};
 use crate::script::{Call, CLEAR, DROP, LINES, LISTEN, POLL, READ, RECORD, RESET, STANDBY, STEP};
 use crate::script::{TAKE, TALK, WRITE};
-use crate::subject::Subject;
+use crate::subject::{try_run_by, Subject};
 
 /// What the longest line of text takes.
 const LINE: usize = 34;
@@ -27,6 +27,14 @@ fn in_the_models_terms(answer: meskvorn::Answer) -> Answer {
         end: answer.end,
         dropped: answer.dropped,
         broken: answer.broken,
+    }
+}
+
+fn give_turns(bus: &mut Bus, turns: u16) -> Turns {
+    let told = bus.give_turns(turns);
+    Turns {
+        refusal: Refusal::ALL[told.refusal as usize],
+        counts: told.counts,
     }
 }
 
@@ -73,5 +81,15 @@ impl Subject for Product {
 
     fn call(&mut self, asked: Call) -> Answer {
         in_the_models_terms(call(&mut self.bus, asked))
+    }
+
+    fn give_turns(&mut self, turns: u16) -> Turns {
+        give_turns(&mut self.bus, turns)
+    }
+
+    fn try_run(&self, turns: u16, order: &[u8]) -> (Vec<Answer>, bool) {
+        let run = |bus: &mut Bus| give_turns(bus, turns);
+        let step = |bus: &mut Bus, party| in_the_models_terms(bus.step(party));
+        try_run_by(&self.bus, order, run, step)
     }
 }

@@ -14,8 +14,8 @@ use crate::systematic;
 use crate::tally::Tally;
 use crate::words;
 
-/// How many further scripts, and how many differences among them, may give a shorter finding.
-const MORE_SCRIPTS: usize = 2000;
+/// How many further lists, and how many differences among them, may give a shorter finding.
+const MORE_LISTS: usize = 2000;
 const MORE_FINDINGS: usize = 8;
 
 fn all_parts(comparison: &mut Comparison, seed: u64, records: u64) -> Result<usize, Finding> {
@@ -24,20 +24,20 @@ fn all_parts(comparison: &mut Comparison, seed: u64, records: u64) -> Result<usi
     edges::run(comparison, seed)?;
     let mut guided = Guided::new(seed);
     while comparison.tally.records < records {
-        comparison.script(guided.script())?;
+        comparison.list(guided.list())?;
     }
     Ok(prefixes.len())
 }
 
-/// Shortening may stop at a long script; other scripts may show a fault by a short one.
+/// Shortening may stop at a long list; other lists may show a fault by a short one.
 pub fn shortest(comparison: &mut Comparison, seed: u64, first: Finding) -> Finding {
     let mut guided = Guided::new(seed);
     let mut best = first;
     let mut findings = 0;
-    for _ in 0..MORE_SCRIPTS {
-        if let Err(other) = comparison.script(guided.script()) {
+    for _ in 0..MORE_LISTS {
+        if let Err(other) = comparison.list(guided.list()) {
             findings += 1;
-            if other.script.len() < best.script.len() {
+            if other.list.len() < best.list.len() {
                 best = other;
             }
         }
@@ -48,7 +48,7 @@ pub fn shortest(comparison: &mut Comparison, seed: u64, first: Finding) -> Findi
     best
 }
 
-/// Tables, then guided scripts until so many records were compared. True if all agreed
+/// Tables, then guided lists until so many records were compared. True if all agreed
 /// and every refusal and event came.
 pub fn random_run(subject: &mut dyn Subject, seed: u64, records: u64) -> bool {
     let start = Instant::now();
@@ -60,8 +60,8 @@ pub fn random_run(subject: &mut dyn Subject, seed: u64, records: u64) -> bool {
         }
     };
     println!(
-        "address lists: {} accepted, {} refused",
-        lists.accepted, lists.refused
+        "address lists: {} accepted, {} refused; {} runs",
+        lists.accepted, lists.refused, lists.runs
     );
     let mut comparison = Comparison::new(subject);
     let kinds = match all_parts(&mut comparison, seed, records) {

@@ -1,6 +1,7 @@
-//! Makes a script that shows a difference as short as it gets.
+//! Makes a list that shows a difference as short as it gets.
 
 use crate::compare::{compare, Difference, Finding};
+use crate::list;
 use crate::script::{BUILD, LINES, RECORD, WRITE};
 use crate::subject::Subject;
 use crate::tally::Tally;
@@ -13,7 +14,8 @@ fn is_build(piece: &[u8]) -> bool {
 /// `address` is the gone party's: those above it move down by one, in commands too.
 fn renumbered(piece: &[u8], gone: u8, address: u8) -> Option<Vec<u8>> {
     let mut piece = piece.to_vec();
-    if piece.len() < RECORD || piece[2] == LINES {
+    let of_no_party = piece.len() < RECORD || piece[2] == LINES;
+    if of_no_party || list::turns_of(&piece).is_some() {
         return Some(piece);
     }
     if piece[3] == gone {
@@ -27,7 +29,7 @@ fn renumbered(piece: &[u8], gone: u8, address: u8) -> Option<Vec<u8>> {
     Some(piece)
 }
 
-/// The script without party `gone` of the build at `at`, up to the next build.
+/// The list without party `gone` of the build at `at`, up to the next build.
 fn without_party(pieces: &[Vec<u8>], at: usize, gone: u8) -> Vec<Vec<u8>> {
     let mut build = pieces[at].clone();
     let address = build[5].saturating_add(gone);
@@ -145,9 +147,9 @@ impl Shrinker<'_> {
     }
 }
 
-/// Shortens a script whose comparison gave `first`.
-pub fn shorten(subject: &mut dyn Subject, script: &[u8], first: Difference) -> Finding {
-    let pieces = script.chunks(RECORD).map(<[u8]>::to_vec).collect();
+/// Shortens a list whose comparison gave `first`.
+pub fn shorten(subject: &mut dyn Subject, list: &[u8], first: Difference) -> Finding {
+    let pieces = list.chunks(RECORD).map(<[u8]>::to_vec).collect();
     let mut shrinker = Shrinker {
         subject,
         pieces,
@@ -155,7 +157,7 @@ pub fn shorten(subject: &mut dyn Subject, script: &[u8], first: Difference) -> F
     };
     shrinker.run();
     Finding {
-        script: shrinker.pieces.concat(),
+        list: shrinker.pieces.concat(),
         difference: shrinker.difference,
     }
 }

@@ -1,6 +1,6 @@
 //! The thing under test, as the comparison drives it.
 
-use crate::model::{Answer, Bus};
+use crate::model::{Answer, Bus, Turns};
 use crate::script::{self, Call, Record};
 
 pub trait Subject {
@@ -17,10 +17,31 @@ pub trait Subject {
     /// One call on the kept bus by its operation's number. A build is none.
     fn call(&mut self, call: Call) -> Answer;
 
+    /// A run on the kept bus.
+    fn give_turns(&mut self, turns: u16) -> Turns;
+
+    /// A run, and beside it single steps of these parties, on copies of the kept bus: the answers to
+    /// the steps, and whether both left the same bus.
+    fn try_run(&self, turns: u16, order: &[u8]) -> (Vec<Answer>, bool);
+
     /// One record on the kept bus.
     fn record(&mut self, record: Record) -> Answer {
         script::run_record_by(self, record, Self::build, Self::call)
     }
+}
+
+/// `try_run` for a subject that keeps such a bus.
+pub fn try_run_by<B: Clone + PartialEq>(
+    bus: &B,
+    order: &[u8],
+    run: impl FnOnce(&mut B) -> Turns,
+    step: impl Fn(&mut B, u8) -> Answer,
+) -> (Vec<Answer>, bool) {
+    let (mut whole, mut single) = (bus.clone(), bus.clone());
+    run(&mut whole);
+    let steps = order.iter().map(|&party| step(&mut single, party));
+    let answers = steps.collect();
+    (answers, whole == single)
 }
 
 /// The model as its own subject.
@@ -44,5 +65,13 @@ impl Subject for ModelSubject {
 
     fn call(&mut self, call: Call) -> Answer {
         script::call(&mut self.bus, call)
+    }
+
+    fn give_turns(&mut self, turns: u16) -> Turns {
+        self.bus.give_turns(turns)
+    }
+
+    fn try_run(&self, turns: u16, order: &[u8]) -> (Vec<Answer>, bool) {
+        try_run_by(&self.bus, order, |bus| bus.give_turns(turns), Bus::step)
     }
 }

@@ -2,9 +2,11 @@
 
 use std::collections::{HashSet, VecDeque};
 
+use crate::bound::TURNS_A_PARTY;
 use crate::compare::{Comparison, Finding};
 use crate::compose::Composer;
 use crate::guided::Guided;
+use crate::list;
 use crate::model::{Acceptor, Bus, Control, Kind, Service, Source, ATN, DAV};
 use crate::script::{self, Record, BUILD, CLEAR, DROP, LINES, LISTEN, POLL, READ, RESET, STANDBY};
 use crate::script::{STEP, TAKE, TALK, WRITE};
@@ -125,7 +127,7 @@ pub fn prefixes() -> Vec<Vec<Record>> {
     found
 }
 
-/// All operations, with own, other and no such party, and values in and out of range.
+/// All operations and some runs, with own, other and no such party, and values in and out of range.
 fn all_calls() -> Vec<Record> {
     let mut calls = vec![
         script::record(LINES, 0, 0, 0),
@@ -134,6 +136,9 @@ fn all_calls() -> Vec<Record> {
         script::record(13, 255, 2, 2),
         script::record(255, 0, 0, 0),
     ];
+    for turns in [1, TURNS_A_PARTY] {
+        calls.push(list::run(turns * u16::from(PARTIES)));
+    }
     for party in [0, 1, 2, PARTIES, 255] {
         for operation in [STEP, READ, TAKE, STANDBY, CLEAR, RESET, DROP] {
             calls.push(script::record(operation, party, 2, 2));
@@ -160,7 +165,7 @@ const BUILDS: [Record; 4] = [
     script::record(BUILD, 2, 2, 5),
 ];
 
-/// Refused calls change nothing, so they go into one script; each accepted one has its own.
+/// Refused calls change nothing, so they go into one list; each accepted one has its own.
 fn one_kind(
     comparison: &mut Comparison,
     guided: &mut Guided,
@@ -171,11 +176,11 @@ fn one_kind(
     for record in prefix {
         script::run_record(&mut bus, *record);
     }
-    let accepted = |call: &Record| script::run_record(&mut bus.clone(), *call).accepted();
+    let accepted = |call: &Record| list::enter(&mut bus.clone(), *call).accepted();
     let (good, refused): (Vec<Record>, Vec<Record>) = calls.iter().partition(|c| accepted(c));
-    comparison.script(guided.go_on(&[prefix, &refused].concat(), TAIL))?;
+    comparison.list(guided.go_on(&[prefix, &refused].concat(), TAIL))?;
     for call in good.iter().chain(&BUILDS) {
-        comparison.script(guided.go_on(&[prefix, &[*call]].concat(), TAIL))?;
+        comparison.list(guided.go_on(&[prefix, &[*call]].concat(), TAIL))?;
     }
     Ok(())
 }

@@ -1,16 +1,24 @@
 //! How often each refusal and each event came.
 
-use crate::model::{Answer, Event, Refusal};
+use crate::bound::Tried;
+use crate::model::{Answer, Event, Refusal, Turns};
 
 #[derive(Clone, Default, Debug)]
 pub struct Tally {
-    pub scripts: u64,
+    pub lists: u64,
     pub records: u64,
     pub refusals: [u64; 11],
     pub events: [u64; 14],
     /// Answers with dropped 1, with dropped 2, with broken 1.
     pub losses: [u64; 3],
+    /// Runs accepted, runs refused.
+    pub runs: [u64; 2],
+    pub turns: u64,
+    pub bound: Tried,
 }
+
+/// Fewer starts would say little of the bound.
+const LEAST_STARTS: u64 = 10_000;
 
 const LOSSES: [&str; 3] = ["dropped 1", "dropped 2", "broken 1"];
 
@@ -24,6 +32,15 @@ impl Tally {
         self.losses[2] += u64::from(answer.broken == 1);
     }
 
+    pub fn count_run(&mut self, run: &Turns) {
+        self.runs[usize::from(run.refusal != Refusal::Accepted)] += 1;
+        self.turns += run
+            .counts
+            .iter()
+            .map(|&count| u64::from(count))
+            .sum::<u64>();
+    }
+
     /// Records that asked for a build or a call.
     pub fn calls(&self) -> u64 {
         self.records - self.refusals[Refusal::Record as usize]
@@ -34,14 +51,15 @@ impl Tally {
         let refusals = self.refusals.iter().zip(Refusal::WORDS);
         let events = self.events.iter().zip(Event::WORDS);
         let losses = self.losses.iter().zip(LOSSES);
-        let all = refusals.chain(events).chain(losses);
-        all.filter(|(count, _)| **count == 0)
-            .map(|(_, word)| word)
-            .collect()
+        let runs = self.runs.iter().zip(["runs", "refused runs"]);
+        let all = refusals.chain(events).chain(losses).chain(runs);
+        let never = all.filter(|(count, _)| **count == 0).map(|(_, word)| word);
+        let few = self.bound.starts < LEAST_STARTS;
+        never.chain(few.then_some("starts of the bound")).collect()
     }
 
     pub fn print(&self) {
-        println!("{} scripts, {} records", self.scripts, self.records);
+        println!("{} lists, {} records", self.lists, self.records);
         println!("{:>3} {:<10} {:>12}", "No.", "refusal", "count");
         for (number, count) in self.refusals.iter().enumerate() {
             println!("{number:>3} {:<10} {count:>12}", Refusal::WORDS[number]);
@@ -51,5 +69,11 @@ impl Tally {
         for (word, count) in Event::WORDS.iter().zip(&self.events).chain(losses) {
             println!("    {word:<10} {count:>12}");
         }
+        let [accepted, refused] = self.runs;
+        println!(
+            "{accepted} runs with {} turns, {refused} refused",
+            self.turns
+        );
+        println!("{}", self.bound.words());
     }
 }

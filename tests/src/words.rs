@@ -1,5 +1,6 @@
 //! Records and answers in words, for reports.
 
+use crate::list;
 use crate::model::{Answer, Refusal};
 use crate::script::{self, Call, Record, MARK};
 
@@ -30,8 +31,11 @@ pub fn call([operation, party, value, extra]: Call) -> String {
     }
 }
 
-/// One piece of a script: a record, a record with a wrong mark, or a short tail.
+/// One piece of a list: a run, a record, a record with a wrong mark, or a short tail.
 pub fn piece(bytes: &[u8]) -> String {
+    if let Some(turns) = list::turns_of(bytes) {
+        return format!("run of {turns} turns");
+    }
     match Record::try_from(bytes) {
         Ok([mark, second, ..]) if [mark, second] != MARK => "wrong mark".to_string(),
         Ok([_, _, script::BUILD, system, count, first]) => {

@@ -4,9 +4,9 @@ mod faults;
 
 pub use faults::{Fault, FAULTS};
 
-use crate::model::{Answer, Bus};
-use crate::script::{self, Call, Record};
-use crate::subject::Subject;
+use crate::model::{Answer, Bus, Turns};
+use crate::script::{self, Call, Record, STEP};
+use crate::subject::{try_run_by, Subject};
 
 /// The model, whose bus and answer a fault alters after each call.
 pub struct Wrong {
@@ -27,13 +27,33 @@ impl Wrong {
         let found = FAULTS.iter().find(|(known, _)| *known == name);
         Wrong::new(found.expect("a known fault").1)
     }
+}
 
-    fn faulty(&mut self, record: Record, run: impl FnOnce(&mut Bus) -> Answer) -> Answer {
-        let before = self.bus;
-        let mut answer = run(&mut self.bus);
-        (self.fault)(&mut self.bus, &before, record, &mut answer);
-        answer
+/// A call, then its fault.
+fn faulty(
+    bus: &mut Bus,
+    fault: Fault,
+    record: Record,
+    run: impl FnOnce(&mut Bus) -> Answer,
+) -> Answer {
+    let before = *bus;
+    let mut answer = run(bus);
+    fault(bus, &before, record, &mut answer);
+    answer
+}
+
+fn faulty_step(bus: &mut Bus, fault: Fault, party: u8) -> Answer {
+    let record = script::record(STEP, party, 0, 0);
+    faulty(bus, fault, record, |bus| bus.step(party))
+}
+
+/// A right run of faulty steps.
+fn faulty_steps(bus: &mut Bus, fault: Fault, turns: u16) -> Turns {
+    let told = bus.clone().give_turns(turns);
+    for party in bus.order_of(turns) {
+        faulty_step(bus, fault, party);
     }
+    told
 }
 
 impl Subject for Wrong {
@@ -53,10 +73,24 @@ impl Subject for Wrong {
     fn call(&mut self, call: Call) -> Answer {
         let [operation, party, value, extra] = call;
         let record = script::record(operation, party, value, extra);
-        self.faulty(record, |bus| script::call(bus, call))
+        faulty(&mut self.bus, self.fault, record, |bus| {
+            script::call(bus, call)
+        })
+    }
+
+    fn give_turns(&mut self, turns: u16) -> Turns {
+        faulty_steps(&mut self.bus, self.fault, turns)
+    }
+
+    fn try_run(&self, turns: u16, order: &[u8]) -> (Vec<Answer>, bool) {
+        let run = |bus: &mut Bus| faulty_steps(bus, self.fault, turns);
+        let step = |bus: &mut Bus, party| faulty_step(bus, self.fault, party);
+        try_run_by(&self.bus, order, run, step)
     }
 
     fn record(&mut self, record: Record) -> Answer {
-        self.faulty(record, |bus| script::run_record(bus, record))
+        faulty(&mut self.bus, self.fault, record, |bus| {
+            script::run_record(bus, record)
+        })
     }
 }

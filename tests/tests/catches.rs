@@ -2,11 +2,12 @@
 
 mod common;
 
-use common::records;
-use meskvorn_tests::compare::{Comparison, Difference, Finding};
+use common::{first_finding, records};
+use meskvorn_tests::compare::{Comparison, Difference};
 use meskvorn_tests::guided::Guided;
 use meskvorn_tests::ledger::Ledger;
-use meskvorn_tests::model::Answer;
+use meskvorn_tests::list;
+use meskvorn_tests::model::{Answer, Turns};
 use meskvorn_tests::script::{Call, Record, LINES, RECORD};
 use meskvorn_tests::subject::{ModelSubject, Subject};
 use meskvorn_tests::wrong::{Wrong, FAULTS};
@@ -87,7 +88,7 @@ fn ledger_catches_each_named_mistake_by_chance_too() {
     for (name, _) in &FAULTS[..4] {
         let mut guided = Guided::new(1);
         let caught = (0..2000).any(|_| {
-            let script = guided.script();
+            let script = list::as_script(guided.list());
             let records: Vec<Record> = script
                 .chunks_exact(RECORD)
                 .map(|piece| piece.try_into().unwrap())
@@ -98,26 +99,15 @@ fn ledger_catches_each_named_mistake_by_chance_too() {
     }
 }
 
-fn first_finding(subject: &mut dyn Subject, records: u64) -> Option<Finding> {
-    let mut comparison = Comparison::new(subject);
-    let mut guided = Guided::new(2);
-    while comparison.tally.records < records {
-        if let Err(finding) = comparison.script(guided.script()) {
-            return Some(finding);
-        }
-    }
-    edges::run(&mut comparison, 2).err()
-}
-
 #[test]
 fn comparison_catches_every_fault() {
     for (name, fault) in FAULTS {
         let finding = first_finding(&mut Wrong::new(*fault), 300_000);
         let finding = finding.unwrap_or_else(|| panic!("not caught: {name}"));
         assert!(
-            finding.script.len() <= 60 * RECORD,
+            finding.list.len() <= 60 * RECORD,
             "{name}: {} bytes",
-            finding.script.len()
+            finding.list.len()
         );
     }
 }
@@ -143,7 +133,7 @@ fn the_joiner_is_shown_by_a_short_script() {
     let mut comparison = Comparison::new(&mut machine);
     let finding = run::shortest(&mut comparison, 4, finding);
     // Build, talker, listener, write, two steps, put, joining, and the joiner's step.
-    assert!(finding.script.len() <= 9 * RECORD, "{:?}", finding.script);
+    assert!(finding.list.len() <= 9 * RECORD, "{:?}", finding.list);
     assert!(matches!(finding.difference, Difference::Answer { .. }));
 }
 
@@ -164,13 +154,19 @@ impl Subject for WrongText {
     fn call(&mut self, call: Call) -> Answer {
         self.0.call(call)
     }
+    fn give_turns(&mut self, turns: u16) -> Turns {
+        self.0.give_turns(turns)
+    }
+    fn try_run(&self, turns: u16, order: &[u8]) -> (Vec<Answer>, bool) {
+        self.0.try_run(turns, order)
+    }
 }
 
 #[test]
 fn comparison_reads_the_text_too() {
     let mut subject = WrongText(ModelSubject::default());
     let finding = first_finding(&mut subject, 1000).expect("a difference");
-    assert!(finding.script.len() <= RECORD);
+    assert!(finding.list.len() <= RECORD);
     assert!(matches!(
         finding.difference,
         Difference::Text { line: 1, .. }
@@ -200,6 +196,12 @@ impl Subject for WrongByNumber {
     }
     fn call(&mut self, call: Call) -> Answer {
         self.model.call((self.call)(call))
+    }
+    fn give_turns(&mut self, turns: u16) -> Turns {
+        self.model.give_turns(turns)
+    }
+    fn try_run(&self, turns: u16, order: &[u8]) -> (Vec<Answer>, bool) {
+        self.model.try_run(turns, order)
     }
 }
 
@@ -255,7 +257,7 @@ fn a_comparison_counts_what_came() {
     let mut subject = ModelSubject::default();
     let mut comparison = Comparison::new(&mut subject);
     comparison
-        .script(&records("00000205 01000000 03000000").concat())
+        .list(&records("00000205 01000000 03000000").concat())
         .unwrap();
     assert_eq!(comparison.tally.records, 3);
     assert_eq!(comparison.tally.refusals[0], 2);

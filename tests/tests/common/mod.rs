@@ -1,8 +1,14 @@
-//! Scripts in hexadecimal without their marks, and answers without their numbers.
+//! Scripts in hexadecimal without their marks, answers without their numbers, and what a comparison
+//! finds first.
 
+use meskvorn_tests::compare::{Comparison, Finding};
+use meskvorn_tests::edges;
+use meskvorn_tests::guided::Guided;
 use meskvorn_tests::script::{self, Record, MARK};
+use meskvorn_tests::subject::Subject;
 
 /// Records from words of eight digits: operation, party, value, extra.
+#[allow(dead_code)]
 pub fn records(calls: &str) -> Vec<Record> {
     let field = |call: &str, at: usize| u8::from_str_radix(&call[at..at + 2], 16).unwrap();
     calls
@@ -39,3 +45,16 @@ pub fn check(pairs: &[(&str, &str)]) {
 pub const NONE: &str = "0 none -- 0 0 0";
 #[allow(dead_code)]
 pub const MOVED: &str = "0 moved -- 0 0 0";
+
+/// Guided lists until so many records were compared, then the tables.
+#[allow(dead_code)]
+pub fn first_finding(subject: &mut dyn Subject, records: u64) -> Option<Finding> {
+    let mut comparison = Comparison::new(subject);
+    let mut guided = Guided::new(2);
+    while comparison.tally.records < records {
+        if let Err(finding) = comparison.list(guided.list()) {
+            return Some(finding);
+        }
+    }
+    edges::run(&mut comparison, 2).err()
+}
