@@ -1,8 +1,10 @@
 //! Machines with one mistake each, for testing the tests.
 
 mod faults;
+mod runs;
 
 pub use faults::{Fault, FAULTS};
+pub use runs::{RunFault, WrongRun, RUN_FAULTS};
 
 use crate::model::{Answer, Bus, Turns};
 use crate::script::{self, Call, Record, STEP};
