@@ -1,5 +1,5 @@
 //! Records per second of the proved library and of the model, and calls per second of the library's
-//! single calls, in one run and on the same scripts.
+//! single calls and runs, in one run and on the same scripts.
 
 use std::hint::black_box;
 use std::time::{Duration, Instant};
@@ -16,6 +16,7 @@ use crate::subject::Subject;
 const REAL_BYTES_PER_SECOND: f64 = 1_000_000.0;
 
 const FIRST_ADDRESS: u8 = 1;
+const ROUNDS_A_BYTE: u8 = 4;
 const LEAST: Duration = Duration::from_millis(300);
 const ROUNDS: usize = 5;
 
@@ -28,7 +29,8 @@ struct Traffic {
 
 /// One byte: written, four rounds of turns from its offer to its end, and read by each listener.
 fn byte_of(parties: u8, value: u8) -> Vec<Record> {
-    let turns = (0..4).flat_map(|_| (0..parties).map(|party| record(STEP, party, 0, 0)));
+    let turns =
+        (0..ROUNDS_A_BYTE).flat_map(|_| (0..parties).map(|party| record(STEP, party, 0, 0)));
     let reads = (1..parties).map(|party| record(READ, party, 0, 0));
     std::iter::once(record(WRITE, 0, value, 0))
         .chain(turns)
@@ -63,13 +65,35 @@ fn calls_of(script: &[u8]) -> Vec<Call> {
         .collect()
 }
 
-/// The build and the calls of the traffic, one by one.
-fn call_by_call(parties: u8, calls: &[Call]) {
+fn built(parties: u8) -> Bus {
     let addresses: Vec<u8> = (FIRST_ADDRESS..).take(parties.into()).collect();
-    let (mut bus, _) = Bus::build(&addresses, 0);
+    Bus::build(&addresses, 0).0
+}
+
+/// The build and the calls of the traffic, one by one.
+fn call_by_call(parties: u8, calls: &[Call]) -> Bus {
+    let mut bus = built(parties);
     for &[operation, party, value, extra] in calls {
         black_box(bus.call(operation, party, value, extra));
     }
+    bus
+}
+
+/// The same with the turns of each byte as one run.
+fn run_by_run(traffic: &Traffic) -> Bus {
+    let mut bus = built(traffic.parties);
+    bus.talk_only(0, true);
+    for party in 1..traffic.parties {
+        bus.listen_only(party, true);
+    }
+    for byte in 0..traffic.bytes {
+        bus.write(0, byte as u8, false);
+        black_box(bus.give_turns(u16::from(ROUNDS_A_BYTE * traffic.parties)));
+        for party in 1..traffic.parties {
+            black_box(bus.read(party));
+        }
+    }
+    bus
 }
 
 /// The shortest time of one run of the script, of several rounds.
@@ -96,10 +120,11 @@ fn row(traffic: &Traffic) {
     let proved = fastest(|out| product.run_script(&traffic.script, out));
     let model = fastest(|out| script::run(&traffic.script, out));
     let calls = calls_of(&traffic.script);
-    let single = fastest(|_| call_by_call(traffic.parties, &calls));
+    let single = fastest(|_| _ = call_by_call(traffic.parties, &calls));
+    let by_runs = fastest(|_| _ = run_by_run(traffic));
     let bytes = traffic.bytes as f64;
     println!(
-        "| {} | {:.0} | {:.1} | {:.1} | {:.2} | {:.0} | {:.0} % | {:.1} |",
+        "| {} | {:.0} | {:.1} | {:.1} | {:.2} | {:.0} | {:.0} % | {:.1} | {:.1} |",
         traffic.parties,
         records / bytes,
         records / proved / 1e6,
@@ -108,13 +133,14 @@ fn row(traffic: &Traffic) {
         bytes / proved,
         100.0 * bytes / proved / REAL_BYTES_PER_SECOND,
         records / single / 1e6,
+        records / by_runs / 1e6,
     );
 }
 
 /// Prints the table.
 pub fn run() {
-    println!("| parties | calls a byte | library, million records a second | model, the same | time against the model | bytes a second | of a real bus | single calls, million a second |");
-    println!("|---|---|---|---|---|---|---|---|");
+    println!("| parties | calls a byte | library, million records a second | model, the same | time against the model | bytes a second | of a real bus | single calls, million a second | the same with runs |");
+    println!("|---|---|---|---|---|---|---|---|---|");
     for parties in [2, 5, 15] {
         row(&traffic(parties));
     }
@@ -124,6 +150,15 @@ pub fn run() {
 mod tests {
     use super::*;
     use crate::model::{Bus as Model, Event};
+
+    #[test]
+    fn runs_carry_the_same_traffic() {
+        for parties in [2, 5, 15] {
+            let traffic = traffic(parties);
+            let calls = calls_of(&traffic.script);
+            assert_eq!(run_by_run(&traffic), call_by_call(parties, &calls));
+        }
+    }
 
     #[test]
     fn every_byte_of_the_traffic_is_read_by_every_listener() {
