@@ -1,6 +1,5 @@
 //! Tables run whole: builds, operations, places, heard bytes, poll registers, runs, damaged scripts.
 
-use crate::bound::TURNS_A_PARTY;
 use crate::compare::{Comparison, Finding};
 use crate::compose::Composer;
 use crate::guided::Guided;
@@ -138,21 +137,16 @@ fn poll_registers(comparison: &mut Comparison) -> Done {
     Ok(())
 }
 
-/// A bus on which the talker has a byte for all others.
-fn offered(count: u8, talker: u8) -> Composer {
+/// The last party has a byte for all others; then a run, and calls of all sorts after it.
+fn one_run(comparison: &mut Comparison, guided: &mut Guided, count: u8, turns: u16) -> Done {
+    let talker = count.saturating_sub(1);
     let mut composer = Composer::new();
     composer.call(BUILD, 0, count, 3);
     composer.call(TALK, talker, 1, 0);
-    for party in (0..count).filter(|&party| party != talker) {
+    for party in 0..talker {
         composer.call(LISTEN, party, 1, 0);
     }
     composer.call(WRITE, talker, 0x41, 1);
-    composer
-}
-
-/// The last party talks; then a run, and calls of all sorts after it.
-fn one_run(comparison: &mut Comparison, guided: &mut Guided, count: u8, turns: u16) -> Done {
-    let mut composer = offered(count, count.saturating_sub(1));
     composer.run(turns);
     comparison.list(guided.go_on(&composer.records, 12))
 }
@@ -168,32 +162,6 @@ fn runs(comparison: &mut Comparison, guided: &mut Guided) -> Done {
     }
     for count in [0, 2, 15] {
         one_run(comparison, guided, count, u16::MAX)?;
-    }
-    Ok(())
-}
-
-/// A byte broken off after so many turns and read by whoever took it, then another for the same
-/// listeners, which may now be in any of their states: starts of the bound.
-fn after_a_broken_byte(comparison: &mut Comparison, count: u8, talker: u8, turns: u16) -> Done {
-    let mut composer = offered(count, talker);
-    composer.run(turns);
-    composer.call(TALK, talker, 0, 0);
-    for party in 0..count {
-        composer.call(READ, party, 0, 0);
-    }
-    composer.call(TALK, talker, 1, 0);
-    composer.call(WRITE, talker, 0x42, 0);
-    composer.run(TURNS_A_PARTY * u16::from(count));
-    run_records(comparison, &composer.records)
-}
-
-fn starts_of_the_bound(comparison: &mut Comparison) -> Done {
-    for count in [2, 3, 4, 7, 15] {
-        for talker in 0..count {
-            for turns in 0..5 * u16::from(count) {
-                after_a_broken_byte(comparison, count, talker, turns)?;
-            }
-        }
     }
     Ok(())
 }
@@ -229,6 +197,5 @@ pub fn run(comparison: &mut Comparison, seed: u64) -> Done {
     heard_bytes(comparison, &mut Guided::new(seed))?;
     poll_registers(comparison)?;
     runs(comparison, &mut Guided::new(seed))?;
-    starts_of_the_bound(comparison)?;
     damaged_scripts(comparison, &mut Random::new(seed))
 }

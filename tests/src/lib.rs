@@ -16,6 +16,7 @@ pub mod random;
 pub mod run;
 pub mod script;
 pub mod shrink;
+pub mod starts;
 pub mod subject;
 pub mod systematic;
 pub mod tally;

@@ -9,6 +9,7 @@ use crate::compare::{compare, Comparison, Finding};
 use crate::edges;
 use crate::guided::Guided;
 use crate::script;
+use crate::starts;
 use crate::subject::Subject;
 use crate::systematic;
 use crate::tally::Tally;
@@ -22,6 +23,7 @@ fn all_parts(comparison: &mut Comparison, seed: u64, records: u64) -> Result<usi
     let prefixes = systematic::prefixes();
     systematic::run(comparison, &prefixes, seed)?;
     edges::run(comparison, seed)?;
+    starts::run(comparison)?;
     let mut guided = Guided::new(seed);
     while comparison.tally.records < records {
         comparison.list(guided.list())?;

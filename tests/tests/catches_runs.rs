@@ -52,6 +52,8 @@ fn a_run_counts_as_its_steps() {
     let mut comparison = Comparison::new(&mut subject);
     let list = [records(OFFERED), vec![list::run(7)], records("03010000")].concat();
     comparison.list(&list.concat()).unwrap();
+    let missing = comparison.tally.missing();
+    assert!(missing.contains(&"refused runs") && missing.contains(&"starts of the bound"));
     let Tally {
         records,
         runs,
