@@ -48,31 +48,25 @@ pub enum Difference {
 
 impl Difference {
     pub fn words(&self) -> String {
+        match self.last_record() {
+            Some(number) => format!("record {number}: {}", self.story()),
+            None => self.story(),
+        }
+    }
+
+    fn story(&self) -> String {
         match self {
-            Difference::Answer {
-                number,
-                model,
-                subject,
-            } => format!(
-                "record {number}: model {}, subject {}",
-                words::answer(model),
-                words::answer(subject)
-            ),
-            Difference::Turns {
-                number,
-                model,
-                subject,
-            } => format!("run {number}: model {model:?}, subject {subject:?}"),
-            Difference::Bus { number } => {
-                format!("run {number}: the subject's bus is not that of the steps")
+            Difference::Answer { model, subject, .. } => {
+                let (model, subject) = (words::answer(model), words::answer(subject));
+                format!("model {model}, subject {subject}")
             }
-            Difference::Bound {
-                number,
-                model,
-                subject,
-            } => format!(
-                "the bound after record {number}: turns needed, model {model:?}, subject {subject:?}"
-            ),
+            Difference::Turns { model, subject, .. } => {
+                format!("model {model:?}, subject {subject:?}")
+            }
+            Difference::Bus { .. } => "the run leaves another bus than its steps".to_string(),
+            Difference::Bound { model, subject, .. } => {
+                format!("turns until the byte ends: model {model:?}, subject {subject:?}")
+            }
             Difference::Text {
                 line,
                 model,
@@ -80,14 +74,12 @@ impl Difference {
             } => {
                 format!("text line {line}: model {model:?}, subject {subject:?}")
             }
-            Difference::Ledger { number, rule } => {
-                format!("record {number}: the model breaks demand 3: {rule}")
-            }
+            Difference::Ledger { rule, .. } => format!("the model breaks demand 3: {rule}"),
             Difference::Stopped => "a panic".to_string(),
         }
     }
 
-    /// The number of the last record that matters, if it is known.
+    /// The number of the last record or run that matters, if it is known.
     pub fn last_record(&self) -> Option<usize> {
         match self {
             Difference::Answer { number, .. }
