@@ -1,14 +1,15 @@
 //! Records per second of the proved library and of the model, and calls per second of the library's
-//! single calls and runs, in one run and on the same scripts.
+//! single calls and runs, in one run and on the same scripts. And the time of a step by itself.
 
 use std::hint::black_box;
 use std::time::{Duration, Instant};
 
 use meskvorn::Bus;
 
+use crate::model::Bus as Model;
 use crate::product::Product;
 use crate::script::{
-    self, record, Call, Record, BUILD, LISTEN, LONGEST, READ, RECORD, STEP, TALK, WRITE,
+    self, record, Call, Record, BUILD, CLEAR, LISTEN, LONGEST, READ, RECORD, STEP, TALK, WRITE,
 };
 use crate::subject::Subject;
 
@@ -137,19 +138,47 @@ fn row(traffic: &Traffic) {
     );
 }
 
-/// Prints the table.
+/// Nanoseconds a step takes in a run of the library, and in the model, which changes its bus in place.
+fn step_row(parties: u8) {
+    let mut bus = built(parties);
+    bus.interface_clear(0);
+    let mut model = Model::new();
+    script::run_record(&mut model, record(BUILD, 0, parties, FIRST_ADDRESS));
+    script::run_record(&mut model, record(CLEAR, 0, 0, 0));
+    let library = fastest(|_| _ = black_box(bus.give_turns(u16::MAX)));
+    let in_place = fastest(|_| {
+        for party in (0..parties).cycle().take(u16::MAX.into()) {
+            black_box(model.step(party));
+        }
+    });
+    let nanoseconds = 1e9 / f64::from(u16::MAX);
+    println!(
+        "| {parties} | {:.0} | {:.0} | {:.1} |",
+        library * nanoseconds,
+        in_place * nanoseconds,
+        library / in_place,
+    );
+}
+
+/// Prints the tables.
 pub fn run() {
     println!("| parties | calls a byte | library, million records a second | model, the same | time against the model | bytes a second | of a real bus | single calls, million a second | the same with runs |");
     println!("|---|---|---|---|---|---|---|---|---|");
     for parties in [2, 5, 15] {
         row(&traffic(parties));
     }
+    println!();
+    println!("| parties | a step in a run, ns | a step of the model, ns | against the model |");
+    println!("|---|---|---|---|");
+    for parties in [2, 5, 15] {
+        step_row(parties);
+    }
 }
 
 #[cfg(test)]
 mod tests {
     use super::*;
-    use crate::model::{Bus as Model, Event};
+    use crate::model::Event;
 
     #[test]
     fn runs_carry_the_same_traffic() {
