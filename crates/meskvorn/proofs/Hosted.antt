@@ -13,7 +13,7 @@ use Rattle.image.specs.Image.{rowsOf, busOf}
 use Rattle.image.proofs.Kept.{kept}
 use Rattle.packing.specs.Packing.{packed}
 use Rattle.meskvorn.specs.Host.{Answered, Gave}
-use Rattle.meskvorn.specs.Hosted.{Op, answerOf, turnsOf, Asked, call, run, Reply, answer, turns, Handed, none, called, ran, Same, Hosted, HostedFromBuild}
+use Rattle.meskvorn.specs.Hosted.{answerOf, turnsOf, Asked, call, run, Reply, answer, turns, Handed, none, called, ran, Same, Hosted, HostedFromBuild}
 use Rattle.meskvorn.proofs.Sizes.{answer-size, turns-size, build-size}
 
 -- What is said of an answer is said of its equal.

@@ -1,15 +1,15 @@
 -- The bound: what seven rounds do, by the places of demand 3's list, and that a run is such rounds.
 -- Assumes nothing.
 use mathlib.Core.Path.{_≡_, refl, sym, ap, _∙_, subst}
-use mathlib.Core.Bool.{Bool, true, false, not, _&&_}
+use mathlib.Core.Bool.{Bool, true, false}
 use mathlib.Core.List.{List, [], _∷_, _++_, append-assoc}
 use mathlib.Core.Logic.{_⊎_, inl, inr}
-use Prim.Native.Nat.{ℕ, zero, suc, _+_, _-_, _*_, _≤_, _<_}
+use Prim.Native.Nat.{ℕ, zero, suc, _+_, _-_, _*_, _<_}
 use native.Mathlib.Omega.{arith}
 use native.Mathlib.Nat.{not-suc-le-zero, le-of-suc-le-suc}
 use lib.ListN.{length, getD, length-map, length-append}
-use lib.Dec.{ltb, eqb}
-use borrow.Author.Tests.{ne-eqb, ltb-true, ltb-false, lt-ltb}
+use lib.Dec.{ltb}
+use borrow.Author.Tests.{ne-eqb, ltb-true, ltb-false}
 use Rattle.party.specs.Driving.{isActive}
 use Rattle.party.specs.Sending.{isSource}
 use Rattle.role.proofs.Logic.{no, test, cond-elim}
@@ -20,7 +20,7 @@ use Rattle.bus.specs.Delivery.{Moment, history, moment, isPut, isEnd}
 use Rattle.bus.proofs.Invariant.{Inv, atnOf, quiet}
 use Rattle.bus.proofs.Putting.{nothing-stands}
 use Rattle.bus.proofs.Reached.{reached}
-use Rattle.runner.specs.Types.{Party, Strs, Event, Bus, Call}
+use Rattle.runner.specs.Types.{Party, Event, Bus}
 use Rattle.runner.specs.Types.ruling
 use Rattle.runner.specs.Types.ev
 use Rattle.runner.specs.Types.call-of

@@ -6,7 +6,7 @@ use Prim.Native.Nat.{ℕ, zero, suc, _+_, _%_, _≤_, _<_}
 use native.Mathlib.Numerals.{add-one}
 use native.Mathlib.Omega.{arith}
 use native.Mathlib.Nat.{mod-lt, mod-eq-of-lt}
-use lib.ListN.{length, getD, set, replicate, take}
+use lib.ListN.{getD, set, replicate, take}
 use lib.Seq.{take-all, take-suc}
 use lib.Dec.{ltb}
 use borrow.Author.Tests.{ne-eqb}

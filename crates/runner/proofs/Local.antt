@@ -1,14 +1,13 @@
 -- A step changes one party: on a bus that has settled, settling touches no other.
 -- Assumes nothing.
-use mathlib.Core.Path.{_≡_, refl, sym, ap, _∙_}
-use mathlib.Core.Bool.{Bool, true, false, not, _||_}
+use mathlib.Core.Path.{_≡_, refl, ap, _∙_}
+use mathlib.Core.Bool.{Bool, false, not, _||_}
 use mathlib.Core.List.{List, [], _∷_}
 use Prim.Native.Nat.{ℕ, zero, suc, _<_}
 use native.Mathlib.Omega.{arith}
 use native.Mathlib.Nat.{not-suc-le-zero, le-of-suc-le-suc}
 use lib.ListN.{length, set}
 use lib.Seq.{getD-set-same, getD-set-other}
-use lib.Dec.{ltb}
 use borrow.Author.Tests.{lt-ltb}
 use Rattle.offer.specs.Offer.{isFull}
 use Rattle.party.specs.Parts.{idle}
@@ -31,7 +30,7 @@ use Rattle.bus.specs.Machine as m
 use Rattle.bus.proofs.Invariant.{Inv, atnOf}
 use Rattle.bus.proofs.EachCall.{call-good}
 use Rattle.bus.proofs.Reached.{sender-is-source}
-use Rattle.runner.specs.Types.{Place, Party, Acceptor, Aids, Anrs, Acrs, Acds, Awns, Standing, Nothing, Byte, Bus, Said, Answer}
+use Rattle.runner.specs.Types.{Party, Acceptor, Aids, Anrs, Acrs, Acds, Awns, Standing, Nothing, Byte, Bus, Said, Answer}
 use Rattle.runner.specs.Runner.{stepOf}
 
 each-still : (n : ℕ) (f : Party → Party) (ps : List Party) → ((j : ℕ) → f (at ps j) ≡ at ps j) → each n f ps ≡ ps

@@ -1,7 +1,7 @@
 -- The queue of the waiting: the places in the order in which they have their turns. A turn takes the first and puts it last.
 -- Assumes nothing.
 use mathlib.Core.Path.{_≡_, refl, sym, ap, _∙_}
-use mathlib.Core.Bool.{Bool, true, false, or-comm, or-false}
+use mathlib.Core.Bool.{true, false, or-comm, or-false}
 use mathlib.Core.List.{List, [], _∷_, _++_, map}
 use Prim.Native.Nat.{ℕ, zero, suc, _<_}
 use native.Mathlib.Omega.{arith}

@@ -6,7 +6,6 @@ use mathlib.Core.Logic.{_⊎_, inl, inr}
 use Prim.Native.Nat.{ℕ, _+_, _-_, _≤_, _<_}
 use native.Mathlib.Omega.{arith}
 use lib.Dec.{eqb}
-use lib.ListN.{set}
 use borrow.Author.Tests.{eqb-true, eqb-false}
 use Rattle.party.specs.Parts.{withSource, withHeld}
 use Rattle.party.specs.Driving.{isActive, drivesNrfd, drivesNdac}
@@ -21,7 +20,6 @@ use Rattle.effect.specs.Stands.{stands}
 use Rattle.effect.specs.Effects.{say, does, stay}
 use Rattle.source_step.specs.SourceStep.{put, noacc, ended, sourceStep}
 use Rattle.bus.specs.Record.{here, lines}
-use Rattle.bus.specs.Settling.{deserted}
 use Rattle.bus.specs.Following.{touch, follow}
 use Rattle.bus.specs.Machine as m
 use Rattle.bus.specs.Delivery.{isPut, isEnd}
@@ -30,7 +28,7 @@ use Rattle.bus.proofs.Accepting.{stands-dav}
 use Rattle.bus.proofs.Summary.{Shape, keeps, puts, ends, breaks}
 use Rattle.bus.proofs.EachCall.{call-good}
 use Rattle.bus.proofs.Reached.{one-source}
-use Rattle.runner.specs.Types.{Place, Party, Source, Sids, Sgns, Sdys, Strs, Acceptor, Aids, Anrs, Empty, Full, Data, Standing, Nothing, Byte, Bus, Said, Answer, Call}
+use Rattle.runner.specs.Types.{Party, Source, Sids, Sgns, Sdys, Strs, Aids, Anrs, Empty, Full, Data, Standing, Nothing, Byte, Bus, Said, Answer, Call}
 use Rattle.runner.specs.Types.ev
 use Rattle.runner.specs.Runner.{stepOf}
 use Rattle.runner.proofs.Local.{local, touch-local, set-here, local-other, local-same, local-atn, call-step, Accepts, acts, atn-kept, standing-kept, count-kept, other-kept, own-next, event-of, broken-of, inv-kept}

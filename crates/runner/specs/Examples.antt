@@ -12,7 +12,7 @@ use Rattle.bus.specs.Record.{build, noParties}
 use Rattle.bus.specs.Machine as m
 use Rattle.bus.specs.Delivery.{isEnd, tally, history}
 use Rattle.bus.specs.Examples.{Report, reported}
-use Rattle.runner.specs.Types.{Bus, Given}
+use Rattle.runner.specs.Types.{Bus}
 use Rattle.runner.specs.Types.ruling
 use Rattle.runner.specs.Types.ev
 use Rattle.runner.specs.Types.call-of

@@ -10,7 +10,7 @@ use Rattle.party.specs.Parts.{one}
 use Rattle.parties.specs.Places.{place, within}
 use Rattle.bus.specs.Machine as m
 use Rattle.bus.specs.Delivery.{tally, history}
-use Rattle.runner.specs.Types.{Place, Bus, Call, Refusal, Given}
+use Rattle.runner.specs.Types.{Bus, Call, Refusal, Given}
 use Rattle.runner.specs.Types.ruling
 use Rattle.runner.specs.Types.call-of
 use Rattle.runner.specs.Waiting.{TieOrder, turns}
@@ -22,7 +22,8 @@ stepOf k = call-of.Step (place k)
 abbrev pub steps : List ℕ → List Call
 steps xs = map stepOf xs
 
--- The turns of a run of t turns. A bus of no parties has none to give.
+-- The places that have the turns of a run of t turns ("0 to 65,535"; here any number). A bus of no parties has none to give them to; a bus value with more than
+-- fifteen, which no build gives, has fifteen.
 abbrev pub turnsOf : TieOrder → Bus → ℕ → List ℕ
 turnsOf tie b t = cond (eqb (b .count) 0) [] (turns tie (within (b .count)) t)
 

@@ -4,7 +4,6 @@ pub use Rattle.party.specs.declared.Source.{Source}
 pub use Rattle.party.specs.declared.Source.the-variants.{Sids, Sgns, Sdys, Strs}
 pub use Rattle.party.specs.declared.Acceptor.{Acceptor}
 pub use Rattle.party.specs.declared.Acceptor.the-variants.{Aids, Anrs, Acrs, Acds, Awns}
-pub use Rattle.offer.specs.declared.Slot.{Slot}
 pub use Rattle.offer.specs.declared.Slot.the-variants.{Empty, Full}
 pub use Rattle.offer.specs.declared.Kind.{Kind}
 pub use Rattle.offer.specs.declared.Kind.the-variants.{Data}
