@@ -1,11 +1,7 @@
-// The addresses of a build: whether they make a bus, and the parties at them.
+// The addresses of a build: whether they make a bus.
 ghost use mathlib.Core.Path.{_≡_};
-ghost use Prim.Native.Nat.{_≤_};
-ghost use lib.ListN.{length};
-ghost use Rattle.addresses.specs.Addresses.{placed, anyOver30, isAmong, twoEqual, badBuild};
-use message::Address;
+ghost use Rattle.addresses.specs.Addresses.{anyOver30, isAmong, twoEqual, badBuild};
 use parties::every::or;
-use party::Party;
 use party::Place;
 
 fn any_over_30(addresses: &[u8]) -> bool
@@ -64,19 +60,4 @@ pub fn is_bad(addresses: &[u8], system: Place) -> bool
     }
     let i = system.0 as usize;
     if i < n { false } else { true }
-}
-
-// A party for each address, then the idle party.
-pub fn parties_at(addresses: &[u8]) -> [Party; 15]
-    requires { ⌜ length (now addresses) ≤ 15 ⌝ }
-    ensures { λ r. ⌜ r ≡ placed 15 (now (addresses .entry)) ⌝ }
-{
-    let mut out = [Party::IDLE; 15];
-    let mut k: usize = 0;
-    while k < addresses.len() {
-        let p = Party::build(Address(addresses[k]));
-        out[k] = p;
-        k = k + 1;
-    }
-    out
 }

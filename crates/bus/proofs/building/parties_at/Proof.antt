@@ -4,10 +4,10 @@ use mathlib.Core.Path.{_≡_, refl}
 use native.Mathlib.Omega.{arith}
 use lib.ListN.{length, take}
 use borrow.Author.Needs.{needs}
 use Rattle.addresses.specs.Addresses.{placed}
 use Rattle.addresses.proofs.Scans.{place-turn, place-done}
-use Rattle.addresses.proofs.parties_at.Statement.{statement}
-use Rattle.addresses.proofs.parties_at.Tie as tie
+use Rattle.bus.proofs.building.parties_at.Statement.{statement}
+use Rattle.bus.proofs.building.parties_at.Tie as tie
 
 abbrev Inv-loop : tie.InvT-loop
 Inv-loop addresses out₀ k₀ out k = (k ≤ length addresses) × (out ≡ placed 15 (take k addresses))
