@@ -11,8 +11,8 @@ use lib.ListN.{length}
 use lib.Dec.{ltb, eqb}
 use borrow.Author.Tests.{eqb-true, eqb-false, eq-eqb, ltb-true, ltb-false, lt-ltb}
 use Rattle.role.proofs.Logic.{no, test, cond-elim, both, or-right}
-use Rattle.runner.specs.Waiting.{TieOrder, waitOf, goesBefore, longestOf, longestWaiting, WaitedLongest}
-use Rattle.runner.specs.RoundRobin.{Orders}
+use Rattle.runner.specs.Waiting.{TieOrder, waitOf, goesBefore, longestOf, longestWaiting}
+use Rattle.runner.specs.RoundRobin.{Orders, LongestFound}
 
 -- what the test says, of the two waits and the tie
 says : (a b : ℕ) (t : Bool) → (ltb b a || (eqb a b && t)) ≡ true → (b < a) ⊎ ((a ≡ b) × (t ≡ true))
@@ -98,7 +98,7 @@ module _ (tie : TieOrder) (ws : List ℕ) (n : ℕ) (O : Orders tie n) where
       no (cc))
 
 -- The definition finds who has waited longest.
-pub longest-waiting : (tie : TieOrder) (ws : List ℕ) → Orders tie (length ws) → 0 < length ws → WaitedLongest tie ws (longestWaiting tie ws)
+pub longest-waiting : LongestFound
 longest-waiting tie ws O p = record {
   there = B .inn;
   longest = λ y l. test (eqb y x) (λ e. let z = ap (waitOf ws) (eqb-true y x e) in omega arith) (λ e. at-least y (says (waitOf ws x) (waitOf ws y) (tie x y) (B .over y l (eqb-false y x e))));
