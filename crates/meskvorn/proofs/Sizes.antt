@@ -24,7 +24,8 @@ use Rattle.addresses.specs.Addresses.{placed, badBuild}
 use Rattle.bus.specs.Following.{followed}
 use Rattle.bus.specs.Machine.{call, refusal, accepted, run}
 use Rattle.runner.specs.Waiting.{byPlace}
-use Rattle.runner.specs.Runner.{steps, turnsOf, runner}
+use Rattle.steps.specs.Steps.{steps}
+use Rattle.runner.specs.Runner.{turnsOf, runner}
 use Rattle.orders.specs.Orders.{orderOf, obey, buildFrom, countUp}
 use Rattle.orders.specs.declared.Order.{Order}
 use Rattle.orders.specs.declared.Order.the-variants as order

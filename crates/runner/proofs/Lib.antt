@@ -8,8 +8,6 @@
 --
 -- Lists, Counts, Giving. Lists in which runs stand for their steps, what the counts say, and how far the loop of the code has come.
 --
--- Local. A step of a party that is no source changes that party alone: every other has settled already.
---
 -- Ranks, Talker, Rounds, Bound. While a byte waits, an acceptor wants at most three turns to be ready (ACDS, AWNS, ANRS, ACRS) and the talker one to be in SDYS; each turn
 -- lowers its party's rank, and nobody else raises it. So within three rounds and a turn of the talker the byte is put. While it stands, each acceptor wants at
 -- most two turns to let go of NDAC, and no turn but the talker's can end it: three rounds more. `Low` says how far a round has come; `waits-round` and
@@ -24,7 +22,6 @@ pub mod InOrder
 pub mod Lists
 pub mod Counts
 pub mod Giving
-pub mod Local
 pub mod Ranks
 pub mod Talker
 pub mod Rounds

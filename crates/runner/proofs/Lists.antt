@@ -7,7 +7,8 @@ use Rattle.bus.specs.Record.{build}
 use Rattle.bus.specs.Machine as m
 use Rattle.bus.proofs.Theorem.{delivery}
 use Rattle.runner.specs.Types.{Bus, Call}
-use Rattle.runner.specs.Runner.{stepOf, steps, turnsOf, runner}
+use Rattle.steps.specs.Steps.{stepOf, steps}
+use Rattle.runner.specs.Runner.{turnsOf, runner}
 use Rattle.runner.specs.Lists.{call, run, expanded, StandsForSteps, DeliveryWithRuns}
 
 pub run-append : (b : Bus) (cs ds : List Call) → m.run b (cs ++ ds) ≡ m.run (m.run b cs) ds

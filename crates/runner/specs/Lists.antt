@@ -9,7 +9,8 @@ use Rattle.bus.specs.Delivery.{Delivered}
 use Rattle.runner.specs.Types.{Place, Bus, Call}
 use Rattle.runner.specs.Types.ruling
 use Rattle.runner.specs.Waiting.{TieOrder}
-use Rattle.runner.specs.Runner.{steps, turnsOf, runner}
+use Rattle.steps.specs.Steps.{steps}
+use Rattle.runner.specs.Runner.{turnsOf, runner}
 
 -- What a host does: a call, or a run of so many turns.
 pub data Act : Type 0 where

@@ -3,24 +3,18 @@
 use Prim.Native.Nat.{ℕ, _+_, _<_}
 use mathlib.Core.Path.{_≡_}
 use mathlib.Core.Bool.{Bool, false, cond}
-use mathlib.Core.List.{List, [], _∷_, map}
+use mathlib.Core.List.{List, [], _∷_}
 use lib.Dec.{eqb}
 use lib.ListN.{getD, set, replicate}
 use Rattle.party.specs.Parts.{one}
-use Rattle.parties.specs.Places.{place, within}
+use Rattle.parties.specs.Places.{within}
 use Rattle.bus.specs.Machine as m
 use Rattle.bus.specs.Delivery.{tally, history}
+use Rattle.steps.specs.Steps.{steps}
 use Rattle.runner.specs.Types.{Bus, Call, Refusal, Given}
 use Rattle.runner.specs.Types.ruling
 use Rattle.runner.specs.Types.call-of
 use Rattle.runner.specs.Waiting.{TieOrder, turns}
-
--- The call that steps the party at a place; a step for each place of a list.
-abbrev pub stepOf : ℕ → Call
-stepOf k = call-of.Step (place k)
-
-abbrev pub steps : List ℕ → List Call
-steps xs = map stepOf xs
 
 -- The places that have the turns of a run of t turns ("0 to 65,535"; here any number). A bus of no parties has none to give them to; a bus value with more than
 -- fifteen, which no build gives, has fifteen.

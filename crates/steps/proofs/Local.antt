@@ -20,9 +20,6 @@ use Rattle.parties.proofs.Places.{some-set}
 use Rattle.effect.specs.Effects.{does}
 use Rattle.acceptor_step.specs.AcceptorStep.{take, acceptorStep, acceptorEffect}
 use Rattle.accepted.specs.Accepted.{effect}
-use Rattle.effect.specs.declared.Effect.{Effect}
-use Rattle.effect.specs.declared.After.the-variants as after
-use Rattle.parties.specs.declared.Lines.{Lines}
 use Rattle.bus.specs.Record.{here, lines}
 use Rattle.bus.specs.Settling.{answered, deserted}
 use Rattle.bus.specs.Following.{touch, follow}
@@ -30,8 +27,9 @@ use Rattle.bus.specs.Machine as m
 use Rattle.bus.proofs.Invariant.{Inv, atnOf}
 use Rattle.bus.proofs.EachCall.{call-good}
 use Rattle.bus.proofs.Reached.{sender-is-source}
-use Rattle.runner.specs.Types.{Party, Acceptor, Aids, Anrs, Acrs, Acds, Awns, Standing, Nothing, Byte, Bus, Said, Answer}
-use Rattle.runner.specs.Runner.{stepOf}
+use Rattle.steps.specs.Types.{Party, Acceptor, Aids, Anrs, Acrs, Acds, Awns, Lines, Standing, Nothing, Byte, Effect, Said, Bus, Answer}
+use Rattle.steps.specs.Types.after
+use Rattle.steps.specs.Steps.{stepOf}
 
 each-still : (n : ℕ) (f : Party → Party) (ps : List Party) → ((j : ℕ) → f (at ps j) ≡ at ps j) → each n f ps ≡ ps
 each-still zero f ps h = refl

@@ -1,0 +1,3 @@
+-- Steps by number of the party: what they change, and what they leave.
+pub mod Types
+pub mod Steps

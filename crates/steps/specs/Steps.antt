@@ -1,0 +1,14 @@
+-- The calls that give a turn.
+-- Assumes nothing.
+use Prim.Native.Nat.{ℕ}
+use mathlib.Core.List.{List, map}
+use Rattle.parties.specs.Places.{place}
+use Rattle.steps.specs.Types.{Call}
+use Rattle.steps.specs.Types.call-of
+
+-- The call that steps the party at a place; a step for each place of a list.
+abbrev pub stepOf : ℕ → Call
+stepOf k = call-of.Step (place k)
+
+abbrev pub steps : List ℕ → List Call
+steps xs = map stepOf xs
