@@ -8,8 +8,6 @@ pub use Rattle.party.specs.declared.Source.{Source}
 pub use Rattle.party.specs.declared.Source.the-variants.{Sids, Sgns, Sdys, Strs}
 pub use Rattle.party.specs.declared.Acceptor.{Acceptor}
 pub use Rattle.party.specs.declared.Acceptor.the-variants.{Aids, Anrs, Acrs, Acds, Awns}
-pub use Rattle.service.specs.declared.Service.{Service}
-pub use Rattle.service.specs.declared.Service.the-variants.{Nprs, Srqs, Aprs}
 pub use Rattle.offer.specs.declared.Slot.{Slot}
 pub use Rattle.offer.specs.declared.Slot.the-variants.{Empty, Full}
 pub use Rattle.offer.specs.declared.Kind.{Kind}
@@ -17,10 +15,8 @@ pub use Rattle.offer.specs.declared.Kind.the-variants.{Command, Data, Status}
 pub use Rattle.event.specs.declared.Event.{Event}
 pub use Rattle.event.specs.declared.Event.the-variants as ev
 pub use Rattle.role.specs.declared.Role.{Role}
-pub use Rattle.service.specs.declared.Request.{Request}
 pub use Rattle.party.specs.declared.Party.{Party}
 pub use Rattle.parties.specs.declared.Lines.{Lines}
-pub use Rattle.parties.specs.declared.Scan.{Scan}
 pub use Rattle.parties.specs.declared.Found.{Found}
 pub use Rattle.parties.specs.declared.Found.the-variants.{Nowhere, At}
 pub use Rattle.effect.specs.declared.Standing.{Standing}

@@ -1,7 +1,7 @@
 -- What holds at each record of a run: the text so far stands in the buffer, and with the text of the records from here on it is the whole.
 -- Assumes nothing.
 use mathlib.Core.Path.{_≡_, refl, sym, ap, _∙_}
-use mathlib.Core.List.{List, [], _∷_, _++_, append-assoc, append-nil}
+use mathlib.Core.List.{List, [], _++_, append-assoc, append-nil}
 use Prim.Native.Nat.{ℕ, _+_, _*_, _-_, _/_, _<_, _≤_}
 use native.Mathlib.Omega.{arith}
 use lib.ListN.{length, drop, drop-of-length-le}
@@ -14,7 +14,7 @@ use Rattle.text.proofs.Laws.{joined, same-size}
 use Rattle.text.proofs.Lengths.{line-length}
 use Rattle.run.specs.Script.{answerTo}
 use Rattle.run.specs.Run.{records, textFrom}
-use Rattle.run.proofs.Records.{next, Turn, turn}
+use Rattle.run.proofs.Records.{next, turn}
 
 pub record Going (s out₀ out : List ℕ) (b : Bus) (at n place : ℕ) : Type 0 where
   pub done : List ℕ

@@ -12,7 +12,7 @@ use lib.ListN.{length, drop, getD, length-drop}
 use lib.Seq.{drop-cons, drop-length}
 use borrow.Author.Tests.{ltb-true, ltb-false, lt-ltb}
 use Rattle.reader.specs.declared.Next.{Next}
-use Rattle.reader.specs.declared.Next.the-variants.{Record, Bad, End}
+use Rattle.reader.specs.declared.Next.the-variants.{Record, Bad}
 use Rattle.reader.specs.Record.{recordAt}
 use Rattle.run.specs.Script.{afterOf}
 use Rattle.run.specs.Run.{records}
