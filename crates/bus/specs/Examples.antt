@@ -1,83 +1,15 @@
--- Document 01's proved examples, P1 to P12: twelve rows, and one proposition that says that the machine answers as they do.
--- A row is a list of runs. A run is a build with its answer, then calls, each beside the answer that document 01 asks for.
+-- Document 01's proved examples, P1 to P12: twelve rows, and one proposition that says that the machine answers as they do. Rows.antt has their words.
 -- Assumes nothing.
 use Prim.Native.Nat.{ℕ}
 use mathlib.Core.Path.{_≡_}
-use mathlib.Core.Bool.{Bool, true, false}
+use mathlib.Core.Bool.{true, false}
 use mathlib.Core.List.{List, [], _∷_, map}
 use Rattle.parties.specs.Places.{place}
-use Rattle.bus.specs.Types.{Event, Bus, Answer, Call, Refusal}
+use Rattle.bus.specs.Types.{Call}
 use Rattle.bus.specs.Types.ruling
 use Rattle.bus.specs.Types.ev
 use Rattle.bus.specs.Types.call-of
-use Rattle.bus.specs.Record.{build}
-use Rattle.bus.specs.Machine.{call}
-
--- An answer without its bus.
-pub record Report : Type 0 where
-  pub refusal : Refusal
-  pub event : Event
-  pub byte : ℕ
-  pub end : Bool
-  pub dropped : ℕ
-  pub broken : ℕ
-
-abbrev pub reported : Answer → Report
-reported a = record { refusal = a .refusal; event = a .event; byte = a .byte; end = a .end; dropped = a .dropped; broken = a .broken }
-
-pub record Run : Type 0 where
-  pub addresses : List ℕ
-  pub system : ℕ
-  pub built : Report
-  pub calls : List (Call × Report)
-
-abbrev pub answers : Bus → List (Call × Report) → List Report
-answers b [] = []
-answers b (c ∷ cs) = reported (call b (c .0)) ∷ answers (call b (c .0) .bus) cs
-
-abbrev pub outcome : Run → List Report
-outcome r = reported (build (r .addresses) (place (r .system))) ∷ answers (build (r .addresses) (place (r .system)) .bus) (r .calls)
-
-abbrev pub expected : Run → List Report
-expected r = r .built ∷ map (λ c. c .1) (r .calls)
-
--- The answers: nothing to say; moved; an event with its byte and END; a refusal.
-abbrev ok : Report
-ok = record { refusal = ruling.Accepted; event = ev.None; byte = 0; end = false; dropped = 0; broken = 0 }
-
-abbrev moved : Report
-moved = record { refusal = ruling.Accepted; event = ev.Moved; byte = 0; end = false; dropped = 0; broken = 0 }
-
-abbrev says : Event → ℕ → Bool → Report
-says x v e = record { refusal = ruling.Accepted; event = x; byte = v; end = e; dropped = 0; broken = 0 }
-
-abbrev refused : Refusal → Report
-refused r = record { refusal = r; event = ev.None; byte = 0; end = false; dropped = 0; broken = 0 }
-
--- The calls.
-abbrev step : ℕ → Call
-step p = call-of.Step (place p)
-
-abbrev write : ℕ → ℕ → ℕ → Call
-write p v e = call-of.Write (place p) v e
-
-abbrev read : ℕ → Call
-read p = call-of.Read (place p)
-
-abbrev listenOnly : ℕ → ℕ → Call
-listenOnly p on = call-of.ListenOnly (place p) on
-
-abbrev talkOnly : ℕ → ℕ → Call
-talkOnly p on = call-of.TalkOnly (place p) on
-
-abbrev clear : ℕ → Call
-clear p = call-of.InterfaceClear (place p)
-
-abbrev standby : ℕ → Call
-standby p = call-of.GoToStandby (place p)
-
-abbrev run : List ℕ → List (Call × Report) → Run
-run addresses calls = record { addresses = addresses; system = 0; built = ok; calls = calls }
+use Rattle.bus.specs.Rows.{Report, Run, outcome, expected, ok, moved, says, loses, refused, step, write, read, listenOnly, talkOnly, clear, standby, run, sends}
 
 -- "P1 the script above": its records 2 to 8, and 9 to 12.
 abbrev taking : List (Call × Report) → List (Call × Report)
@@ -188,7 +120,7 @@ P6 =
     ∷ (step 1, moved)
     ∷ (step 1, says ev.Data 0x41 false)
     ∷ (step 2, says ev.Took 0x41 false)
-    ∷ (call-of.TakeControl (place 0), record { refusal = ruling.Accepted; event = ev.None; byte = 0; end = false; dropped = 0; broken = 1 })
+    ∷ (call-of.TakeControl (place 0), loses 0 1)
     ∷ (call-of.Lines, says ev.Lines 0xb0 false)
     ∷ [])
     ∷ []
@@ -223,18 +155,6 @@ P9 =
     run (0 ∷ 1 ∷ 2 ∷ 3 ∷ 4 ∷ 5 ∷ 6 ∷ 7 ∷ 8 ∷ 9 ∷ 10 ∷ 11 ∷ 12 ∷ 13 ∷ 14 ∷ []) ((step 14, ok) ∷ (step 15, refused ruling.NoParty) ∷ [])
     ∷ notBuilt (0 ∷ 1 ∷ 2 ∷ 3 ∷ 4 ∷ 5 ∷ 6 ∷ 7 ∷ 8 ∷ 9 ∷ 10 ∷ 11 ∷ 12 ∷ 13 ∷ 14 ∷ 15 ∷ [])
     ∷ []
-
--- Party 0 sends command v to party 1, whose acceptor is in ANRS.
-abbrev sends : ℕ → List (Call × Report) → List (Call × Report)
-sends v rest =
-    (write 0 v 0, ok)
-    ∷ (step 1, moved)
-    ∷ (step 0, moved)
-    ∷ (step 0, says ev.Cmd v false)
-    ∷ (step 1, says ev.Heard v false)
-    ∷ (step 1, moved)
-    ∷ (step 0, says ev.Ended v false)
-    ∷ rest
 
 -- "P10 C5 is heard as talk address 5": party 1 talks, so that it may not listen.
 abbrev pub P10 : List Run

@@ -4,5 +4,6 @@ pub mod Record
 pub mod Settling
 pub mod Following
 pub mod Machine
+pub mod Rows
 pub mod Examples
 pub mod Delivery

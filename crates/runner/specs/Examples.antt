@@ -11,7 +11,7 @@ use Rattle.parties.specs.Places.{place}
 use Rattle.bus.specs.Record.{build, noParties}
 use Rattle.bus.specs.Machine as m
 use Rattle.bus.specs.Delivery.{isEnd, tally, history}
-use Rattle.bus.specs.Examples.{Report, reported}
+use Rattle.bus.specs.Rows.{Report, reported}
 use Rattle.runner.specs.Types.{Bus}
 use Rattle.runner.specs.Types.ruling
 use Rattle.runner.specs.Types.ev

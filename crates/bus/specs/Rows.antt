@@ -1,0 +1,97 @@
+-- The words of a proved example. An example is a list of runs. A run is a build with its answer, then calls, each beside the answer that it should have.
+-- Assumes nothing.
+use Prim.Native.Nat.{ℕ}
+use mathlib.Core.Bool.{Bool, false}
+use mathlib.Core.List.{List, [], _∷_, map}
+use Rattle.parties.specs.Places.{place}
+use Rattle.bus.specs.Types.{Event, Bus, Answer, Call, Refusal}
+use Rattle.bus.specs.Types.ruling
+use Rattle.bus.specs.Types.ev
+use Rattle.bus.specs.Types.call-of
+use Rattle.bus.specs.Record.{build}
+use Rattle.bus.specs.Machine.{call}
+
+-- An answer without its bus.
+pub record Report : Type 0 where
+  pub refusal : Refusal
+  pub event : Event
+  pub byte : ℕ
+  pub end : Bool
+  pub dropped : ℕ
+  pub broken : ℕ
+
+abbrev pub reported : Answer → Report
+reported a = record { refusal = a .refusal; event = a .event; byte = a .byte; end = a .end; dropped = a .dropped; broken = a .broken }
+
+pub record Run : Type 0 where
+  pub addresses : List ℕ
+  pub system : ℕ
+  pub built : Report
+  pub calls : List (Call × Report)
+
+abbrev pub answers : Bus → List (Call × Report) → List Report
+answers b [] = []
+answers b (c ∷ cs) = reported (call b (c .0)) ∷ answers (call b (c .0) .bus) cs
+
+abbrev pub outcome : Run → List Report
+outcome r = reported (build (r .addresses) (place (r .system))) ∷ answers (build (r .addresses) (place (r .system)) .bus) (r .calls)
+
+abbrev pub expected : Run → List Report
+expected r = r .built ∷ map (λ c. c .1) (r .calls)
+
+-- The answers: bytes dropped and broken off; nothing to say; an event with its byte and END; moved; a refusal.
+abbrev pub loses : ℕ → ℕ → Report
+loses dropped broken = record { refusal = ruling.Accepted; event = ev.None; byte = 0; end = false; dropped = dropped; broken = broken }
+
+abbrev pub ok : Report
+ok = loses 0 0
+
+abbrev pub says : Event → ℕ → Bool → Report
+says x v e = record { refusal = ruling.Accepted; event = x; byte = v; end = e; dropped = 0; broken = 0 }
+
+abbrev pub moved : Report
+moved = says ev.Moved 0 false
+
+abbrev pub refused : Refusal → Report
+refused r = record { refusal = r; event = ev.None; byte = 0; end = false; dropped = 0; broken = 0 }
+
+-- The calls.
+abbrev pub step : ℕ → Call
+step p = call-of.Step (place p)
+
+abbrev pub write : ℕ → ℕ → ℕ → Call
+write p v e = call-of.Write (place p) v e
+
+abbrev pub read : ℕ → Call
+read p = call-of.Read (place p)
+
+abbrev pub listenOnly : ℕ → ℕ → Call
+listenOnly p on = call-of.ListenOnly (place p) on
+
+abbrev pub talkOnly : ℕ → ℕ → Call
+talkOnly p on = call-of.TalkOnly (place p) on
+
+abbrev pub drop : ℕ → Call
+drop p = call-of.Drop (place p)
+
+abbrev pub clear : ℕ → Call
+clear p = call-of.InterfaceClear (place p)
+
+abbrev pub standby : ℕ → Call
+standby p = call-of.GoToStandby (place p)
+
+-- A run from an accepted build, with party 0 the system party.
+abbrev pub run : List ℕ → List (Call × Report) → Run
+run addresses calls = record { addresses = addresses; system = 0; built = ok; calls = calls }
+
+-- Party 0 sends command v to party 1, whose acceptor is in ANRS.
+abbrev pub sends : ℕ → List (Call × Report) → List (Call × Report)
+sends v rest =
+    (write 0 v 0, ok)
+    ∷ (step 1, moved)
+    ∷ (step 0, moved)
+    ∷ (step 0, says ev.Cmd v false)
+    ∷ (step 1, says ev.Heard v false)
+    ∷ (step 1, moved)
+    ∷ (step 0, says ev.Ended v false)
+    ∷ rest
