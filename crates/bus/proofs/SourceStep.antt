@@ -7,8 +7,8 @@ use Prim.Native.Nat.{ℕ, _+_, _<_}
 use native.Mathlib.Omega.{arith}
 use borrow.Author.Tests.{eqb-true}
 use Rattle.message.specs.Meaning.{meaning}
-use Rattle.offer.specs.Offer.{isFull, kindOf}
-use Rattle.party.specs.Parts.{one, heldBytes, withSource, withHeld}
+use Rattle.offer.specs.Offer.{isFull, kindOf, endOf}
+use Rattle.party.specs.Parts.{one, heldBytes, withSource}
 use Rattle.party.specs.Driving.{isActive, drivesNrfd}
 use Rattle.role.specs.Hearing.{hear, passesControl}
 use Rattle.party.specs.Sending.{isSource, isPolled, offer}
@@ -30,7 +30,7 @@ use Rattle.bus.specs.Delivery.{isPut, isEnd, isTake, isHostPut}
 use Rattle.bus.proofs.Invariant.{sentBy, look, look-idle, Pre, Inv, atnOf, quiet}
 use Rattle.bus.proofs.Putting.{Fit, put-pre, end-pre, nothing-stands, look-on}
 use Rattle.bus.proofs.Summary.{Good, put-good, end-good, none-ready}
-use Rattle.bus.proofs.OneParty.{Plain, plain-good, plain-same, plain-source, step-caller, stay-good}
+use Rattle.bus.proofs.OneParty.{plain-good, plain-same, plain-source, step-caller, stay-good}
 use Rattle.bus.proofs.Passing.{pass-to}
 
 -- the kinds
@@ -115,23 +115,14 @@ module _ (b : Bus) (I : Inv b) (p : Place) (l : p .0 < b .count) (so : isSource 
         put-with _ (put Status v e p (here b (p .0)) .party) Status v false refl refl refl refl refl refl refl refl
         (record { command = sym (atn-off (a .0)); leads = λ h. no (cc); plain = λ h. no (cc); status = sym (a .1) }) nr (omega arith)
 
-    noacc-with : (new : Party) (v : ℕ) (y : Bool) (d : ℕ) → Plain (here b (p .0)) new → heldBytes (here b (p .0)) ≡ d + heldBytes new → Good b (call-of.Step p) (touch (atnOf b) b (p .0) (does (say ev.Noacc v y d) new (b .standing)))
-    noacc-with new v y d H w = plain-good b (call-of.Step p) I (p .0) l (say ev.Noacc v y d) new H (step-caller b I p l) refl refl refl (omega arith)
-
-    plain-spent : (s : Slot) → Plain (here b (p .0)) (withSource Sgns (withHeld s (here b (p .0))))
-    plain-spent s = record { role = refl; control = refl; acceptor = refl; input = λ e. e; strs = λ e. no (cc); stst = λ e. no (cc) }
-
-    noacc-kind : (k : Kind) (v : ℕ) (e : Bool) → kind ≡ k → offer (isPolled (atnOf b) (here b (p .0))) (here b (p .0)) ≡ Full v e → G (noacc k v e (b .standing) (here b (p .0)))
-    unfolding kind G
-    noacc-kind Command v e ek eo = let t = I .pre .atnIf (p .0) (kind-command (isActive (here b (p .0))) (isPolled (atnOf b) (here b (p .0))) ek) in
-        noacc-with (noacc Command v e (b .standing) (here b (p .0)) .party) v false 1 (plain-spent Empty) (from-held v e (atn-unpolled (atnOf b) (here b (p .0)) t) eo)
-    noacc-kind Data v e ek eo = noacc-with (noacc Data v e (b .standing) (here b (p .0)) .party) v e 1 (plain-spent Empty) (from-held v e (kind-data (isActive (here b (p .0))) (isPolled (atnOf b) (here b (p .0))) ek .1) eo)
-    noacc-kind Status v e ek eo = noacc-with (noacc Status v e (b .standing) (here b (p .0)) .party) v false 0 (plain-spent (here b (p .0) .held)) (omega arith)
+    noacc-good : (k : Kind) (v : ℕ) (e : Bool) → G (noacc k v e (b .standing) (here b (p .0)))
+    unfolding G
+    noacc-good k v e = plain-good b (call-of.Step p) I (p .0) l (say ev.Noacc v (endOf k e) 0) (here b (p .0)) (plain-same (here b (p .0))) (step-caller b I p l) refl refl refl refl
 
     ready-good : (o : Slot) → offer (isPolled (atnOf b) (here b (p .0))) (here b (p .0)) ≡ o → G (ready o kind (lines b) (b .standing) p (here b (p .0)))
     ready-good Empty eo = moved Sgns (λ e. no (cc)) (λ e. no (cc))
     ready-good (Full v e) eo = cond-elim G (lines b .nrfd) (λ _. stays)
-        (λ nr. cond-elim G (lines b .ndac) (λ _. put-kind kind v e refl eo nr) (λ _. noacc-kind kind v e refl eo))
+        (λ nr. cond-elim G (lines b .ndac) (λ _. put-kind kind v e refl eo nr) (λ _. noacc-good kind v e))
 
   -- The byte ends: party p sent it, and nobody is left to take it.
   module _ (st : here b (p .0) .source ≡ Strs) (nd : lines b .ndac ≡ false) where

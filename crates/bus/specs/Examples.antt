@@ -125,14 +125,19 @@ P6 =
     ∷ [])
     ∷ []
 
--- "P7 no listener: noacc, dropped 1"
+-- "P7 no listener: noacc", and since document 02's Q-2 "dropped 0". Stepped again the talker says noacc again; a listener that joins then takes that byte.
 abbrev pub P7 : List Run
 P7 =
     run (5 ∷ 6 ∷ []) (
     (talkOnly 0 1, ok)
     ∷ (write 0 0x41 1, ok)
     ∷ (step 0, moved)
-    ∷ (step 0, record { refusal = ruling.Accepted; event = ev.Noacc; byte = 0x41; end = true; dropped = 1; broken = 0 })
+    ∷ (step 0, says ev.Noacc 0x41 true)
+    ∷ (step 0, says ev.Noacc 0x41 true)
+    ∷ (listenOnly 1 1, ok)
+    ∷ (step 1, moved)
+    ∷ (step 0, says ev.Data 0x41 true)
+    ∷ (step 1, says ev.Took 0x41 true)
     ∷ [])
     ∷ []
 

@@ -1,6 +1,5 @@
 -- A byte on offer (document 01, "Source step").
 -- Assumes nothing.
-use Prim.Native.Nat.{ℕ}
 use mathlib.Core.Bool.{Bool, true, false, cond}
 use Rattle.event.specs.declared.Event.{Event}
 use Rattle.event.specs.declared.Event.the-variants as ev
@@ -28,13 +27,8 @@ putEvent Command = ev.Cmd
 putEvent Data = ev.Data
 putEvent Status = ev.Stat
 
--- The held register once the byte on offer has gone. "A polled party's held byte stays held."
+-- The held register once the byte on offer has been put. "A polled party's held byte stays held."
 abbrev pub spent : Kind → Slot → Slot
 spent Command s = Empty
 spent Data s = Empty
 spent Status s = s
-
-abbrev pub noaccDrops : Kind → ℕ
-noaccDrops Command = 1
-noaccDrops Data = 1
-noaccDrops Status = 0

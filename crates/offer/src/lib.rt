@@ -1,6 +1,6 @@
-// A byte on offer: its register, its kind, and what its going leaves.
+// A byte on offer: its register, its kind, and what putting it leaves.
 ghost use mathlib.Core.Path.{_≡_};
-ghost use Rattle.offer.specs.Offer.{isFull, kindOf, endOf, putEvent, spent, noaccDrops};
+ghost use Rattle.offer.specs.Offer.{isFull, kindOf, endOf, putEvent, spent};
 use event::Event;
 
 // A byte with its END, or none: the held byte and the data-in byte.
@@ -62,18 +62,7 @@ impl Kind {
         }
     }
 
-    // How many held bytes go when nobody accepts one of this kind.
-    pub fn noacc_drops(self) -> u8
-        ensures { λ r. ⌜ r ≡ noaccDrops self ⌝ }
-    {
-        match self {
-            Kind::Command => 1,
-            Kind::Data => 1,
-            Kind::Status => 0,
-        }
-    }
-
-    // What the held register keeps once a byte of this kind has gone.
+    // What the held register keeps once a byte of this kind has been put.
     pub fn spends(self, held: Slot) -> Slot
         ensures { λ r. ⌜ r ≡ spent self held ⌝ }
     {

@@ -1,9 +1,9 @@
--- What a source offers, and what putting and dropping it leave of the party (document 01, "Source step").
+-- What a source offers, and what putting it leaves of the party (document 01, "Source step").
 -- Assumes nothing.
 use mathlib.Core.Bool.{Bool, false, not, cond, _&&_, _||_}
 use Rattle.service.specs.Service.{status}
 use Rattle.offer.specs.Offer.{spent}
-use Rattle.party.specs.Types.{Party, Slot, Full, Kind, Source}
+use Rattle.party.specs.Types.{Party, Slot, Full, Kind, Strs}
 use Rattle.party.specs.Parts.{withSource, withHeld}
 use Rattle.party.specs.Driving.{isActive}
 
@@ -19,7 +19,6 @@ isPolled atn p = not atn && p .role .talk && p .role .poll
 abbrev pub offer : Bool → Party → Slot
 offer polled p = cond polled (Full (status (p .request)) false) (p .held)
 
--- The sender once its byte has left it. "put: to STRS, the byte stands, and leaves the held register if it came from there"; "event noacc, to SGNS,
--- and the held byte is dropped if it was the one on offer"
-abbrev pub parted : Kind → Source → Party → Party
-parted k to p = withSource to (withHeld (spent k (p .held)) p)
+-- The sender once it has put its byte. "put: to STRS, the byte stands, and leaves the held register if it came from there"
+abbrev pub parted : Kind → Party → Party
+parted k p = withSource Strs (withHeld (spent k (p .held)) p)

@@ -46,11 +46,11 @@ impl Party {
         }
     }
 
-    // The sender once its byte of this kind has left it: it goes to STRS where the byte stands, to SGNS where nobody accepted it.
-    pub fn parts(self, kind: Kind, to: Source) -> Party
-        ensures { λ r. ⌜ r ≡ parted kind to self ⌝ }
+    // The sender once it has put its byte of this kind.
+    pub fn parts(self, kind: Kind) -> Party
+        ensures { λ r. ⌜ r ≡ parted kind self ⌝ }
     {
         let held = self.held;
-        self.with_held(kind.spends(held)).with_source(to)
+        self.with_held(kind.spends(held)).with_source(Source::Strs)
     }
 }

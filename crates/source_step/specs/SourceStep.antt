@@ -4,7 +4,7 @@ use Prim.Native.Nat.{ℕ}
 use mathlib.Core.Bool.{Bool, cond}
 use Rattle.message.specs.Meaning.{meaning}
 use Rattle.role.specs.Hearing.{passesControl}
-use Rattle.offer.specs.Offer.{isFull, kindOf, endOf, putEvent, noaccDrops}
+use Rattle.offer.specs.Offer.{isFull, kindOf, endOf, putEvent}
 use Rattle.party.specs.Parts.{withSource}
 use Rattle.party.specs.Driving.{isActive}
 use Rattle.party.specs.Hearing.{heardBy}
@@ -17,11 +17,11 @@ use Rattle.effect.specs.Effects.{say, does, stay, move}
 
 -- "put: to STRS, the byte stands"
 abbrev pub put : Kind → ℕ → Bool → Place → Party → Effect
-put k v e i p = does (say (putEvent k) v (endOf k e) 0) (parted k Strs p) (Byte i k v (endOf k e))
+put k v e i p = does (say (putEvent k) v (endOf k e) 0) (parted k p) (Byte i k v (endOf k e))
 
--- "event noacc, to SGNS, and the held byte is dropped if it was the one on offer"
+-- "noacc leaves the held byte in its register and the source in SDYS" (document 02, Q-2)
 abbrev pub noacc : Kind → ℕ → Bool → Standing → Party → Effect
-noacc k v e st p = does (say ev.Noacc v (endOf k e) (noaccDrops k)) (parted k Sgns p) st
+noacc k v e st p = does (say ev.Noacc v (endOf k e) 0) p st
 
 -- "SDYS: no byte on offer, to SGNS; else NRFD true, stay; else NDAC false, event noacc ..; else put"
 abbrev pub ready : Slot → Kind → Lines → Standing → Place → Party → Effect

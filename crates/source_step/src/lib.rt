@@ -29,18 +29,14 @@ fn put_up(kind: Kind, v: u8, e: bool, i: Place, p: Party) -> Effect
         end,
     };
     let said = Said::say(kind.put_event(), v, end, 0);
-    Effect::does(said, p.parts(kind, Source::Strs), standing)
+    Effect::does(said, p.parts(kind), standing)
 }
 
-// Nobody is there to accept the byte.
+// Nobody is there to accept the byte, which is kept.
 fn not_accepted(kind: Kind, v: u8, e: bool, st: Standing, p: Party) -> Effect
     ensures { λ r. ⌜ r ≡ noacc kind v e st p ⌝ }
 {
-    Effect::does(
-        Said::say(Event::Noacc, v, kind.end(e), kind.noacc_drops()),
-        p.parts(kind, Source::Sgns),
-        st,
-    )
+    Effect::does(Said::say(Event::Noacc, v, kind.end(e), 0), p, st)
 }
 
 // A source in SDYS.
