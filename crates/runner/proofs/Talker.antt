@@ -31,7 +31,7 @@ use Rattle.bus.proofs.Reached.{one-source}
 use Rattle.runner.specs.Types.{Party, Source, Sids, Sgns, Sdys, Strs, Aids, Anrs, Empty, Full, Data, Standing, Nothing, Byte, Bus, Said, Answer, Call}
 use Rattle.runner.specs.Types.ev
 use Rattle.steps.specs.Steps.{stepOf}
-use Rattle.steps.proofs.Local.{local, touch-local, set-here, local-other, local-same, local-atn, call-step, Accepts, acts, atn-kept, standing-kept, count-kept, other-kept, own-next, event-of, broken-of, inv-kept}
+use Rattle.steps.proofs.Local.{local, touch-local, set-here, local-other, local-same, local-atn, source-step, Accepts, acts, atn-kept, standing-kept, count-kept, other-kept, own-next, event-of, broken-of, inv-kept}
 use Rattle.runner.proofs.Ranks.{rank, left, tick, tick-rank, tick-part, tick-acceptor, tick-input, tock-left, tock-event, no-rank-no-nrfd, none-left-no-ndac, ready-holds-ndac, dav-off}
 
 -- a source keeps its state when it settles
@@ -97,7 +97,7 @@ module _ (n p w v : ℕ) (e : Bool) where
 
     as-sends : m.call b (stepOf p)
         ≡ follow (atnOf b) b p (sourceStep (here b p .source) (offer (isPolled (atnOf b) (here b p)) (here b p)) (kindOf (isActive (here b p)) (isPolled (atnOf b) (here b p))) (lines b) (otherTalker (b .count) p (b .parties)) (b .standing) (place p) (here b p))
-    as-sends = call-step b (B .inv) p inn ∙ rw own-source refl
+    as-sends = source-step b (B .inv) p inn own-source
 
     -- a step of another party keeps the base
     base-other : (i : ℕ) → i < n → (i ≡ p → ⊥) → Base (m.call b (stepOf i) .bus)

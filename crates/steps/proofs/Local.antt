@@ -1,7 +1,7 @@
 -- A step changes one party: on a bus that has settled, settling touches no other.
 -- Assumes nothing.
 use mathlib.Core.Path.{_≡_, refl, ap, _∙_}
-use mathlib.Core.Bool.{Bool, false, not, _||_}
+use mathlib.Core.Bool.{Bool, true, false, not, _||_}
 use mathlib.Core.List.{List, [], _∷_}
 use Prim.Native.Nat.{ℕ, zero, suc, _<_}
 use native.Mathlib.Omega.{arith}
@@ -18,6 +18,7 @@ use Rattle.role.proofs.Logic.{no, cond-elim}
 use Rattle.parties.specs.Places.{place, at, each, otherTalker}
 use Rattle.parties.proofs.Places.{some-set}
 use Rattle.effect.specs.Effects.{does}
+use Rattle.source_step.specs.SourceStep.{sourceEffect}
 use Rattle.acceptor_step.specs.AcceptorStep.{take, acceptorStep, acceptorEffect}
 use Rattle.accepted.specs.Accepted.{effect}
 use Rattle.bus.specs.Record.{here, lines}
@@ -47,7 +48,7 @@ abbrev pub local : Bus → ℕ → Said → Party → Standing → Answer
 local b i s q st = answered false s (record { parties = set (b .parties) i (settled (atnOf b) q); count = b .count; system = b .system; standing = st })
 
 module _ (b : Bus) (I : Inv b) (i : ℕ) (l : i < b .count) where
-  room : i < length (b .parties)
+  pub room : i < length (b .parties)
   room = let z = I .size in let s = I .small in omega arith
 
   pub touch-local : (s : Said) (q : Party) (st : Standing) → deserted (atnOf b) (set (b .parties) i q) st ≡ false → touch (atnOf b) b i (does s q st) ≡ local b i s q st
@@ -76,9 +77,14 @@ module _ (b : Bus) (I : Inv b) (i : ℕ) (l : i < b .count) where
     local-atn e = some-set (b .count) isActive (b .parties) i (settled (atnOf b) q) e
 
 -- a step of a party that is there is accepted
-pub call-step : (b : Bus) → Inv b → (i : ℕ) → i < b .count
+call-step : (b : Bus) → Inv b → (i : ℕ) → i < b .count
     → m.call b (stepOf i) ≡ follow (atnOf b) b i (effect (lines b) (otherTalker (b .count) i (b .parties)) (b .standing) (place i) (here b i))
 call-step b I i l = let s = I .small in rw (lt-ltb i 15 (omega arith), lt-ltb i (b .count) l) refl
+
+-- a source takes the source step
+pub source-step : (b : Bus) → Inv b → (i : ℕ) → i < b .count → isSource (atnOf b) (here b i) ≡ true
+    → m.call b (stepOf i) ≡ follow (atnOf b) b i (sourceEffect (lines b) (otherTalker (b .count) i (b .parties)) (b .standing) (place i) (here b i))
+source-step b I i l so = call-step b I i l ∙ rw so refl
 
 -- An acceptor step is followed by settling alone, lets stand what stands, and changes no control.
 record Calm (st : Standing) (p : Party) (e : Effect) : Type 0 where

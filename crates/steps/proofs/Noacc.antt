@@ -1,0 +1,166 @@
+-- A byte with nobody to take it is kept.
+-- Assumes nothing.
+use mathlib.Core.Path.{_≡_, refl, sym, ap, _∙_, subst}
+use mathlib.Core.Bool.{Bool, true, false, not, _&&_, _||_}
+use mathlib.Core.List.{List, [], _∷_}
+use Prim.Native.Nat.{ℕ, zero, suc, _<_}
+use native.Mathlib.Nat.{not-suc-le-zero, le-of-suc-le-suc}
+use lib.Dec.{ltb}
+use lib.ListN.{length, set}
+use borrow.Author.Tests.{ltb-true}
+use Rattle.message.specs.Meaning.{meaning}
+use Rattle.offer.specs.Offer.{isFull, kindOf, endOf}
+use Rattle.role.proofs.Logic.{no, test, cond-elim}
+use Rattle.role.proofs.Roles.{hear-events}
+use Rattle.party.specs.Driving.{isActive, nrfdAt, ndacAt, drivesNrfd, drivesNdac}
+use Rattle.party.specs.Sending.{isSource, isPolled, offer}
+use Rattle.parties.specs.Places.{place, at, otherTalker}
+use Rattle.parties.proofs.Places.{some-none}
+use Rattle.effect.specs.Effects.{say}
+use Rattle.source_step.specs.SourceStep.{put, noacc, ready, ended, sourceStep}
+use Rattle.acceptor_step.specs.AcceptorStep.{take, acceptorStep}
+use Rattle.bus.specs.Record.{here, lines, build}
+use Rattle.bus.specs.Following.{follow}
+use Rattle.bus.specs.Machine as m
+use Rattle.bus.proofs.Invariant.{Inv, atnOf, quiet}
+use Rattle.bus.proofs.Putting.{nothing-stands}
+use Rattle.bus.proofs.Reached.{reached, one-source}
+use Rattle.steps.specs.Types.{Party, Source, Sids, Sgns, Sdys, Strs, Acceptor, Aids, Anrs, Acrs, Acds, Awns, Slot, Empty, Full, Kind, Command, Data, Status, Event, Lines, Found, Standing, Nothing, Byte, Said, After, Effect, Bus, Answer}
+use Rattle.steps.specs.Types.ev
+use Rattle.steps.specs.Types.after
+use Rattle.steps.specs.Steps.{stepOf, steps}
+use Rattle.steps.specs.Noacc.{Alone, kept, Keeps, KeepsByte}
+use Rattle.steps.proofs.Local.{local, room, touch-local, source-step, as-local, event-of}
+
+set-same : (ps : List Party) (i : ℕ) → i < length ps → set ps i (at ps i) ≡ ps
+set-same [] i h = absurd (not-suc-le-zero h)
+set-same (p ∷ ps) zero h = refl
+set-same (p ∷ ps) (suc i) h = ap (λ (x : List Party). p ∷ x) (set-same ps i (le-of-suc-le-suc h))
+
+-- nobody drives NRFD or NDAC who takes no part
+and-false : (x : Bool) → (x && false) ≡ false
+and-false true = refl
+and-false false = refl
+
+in-aids : (a : Acceptor) → nrfdAt a ≡ false → ndacAt a ≡ false → a ≡ Aids
+in-aids Aids r d = refl
+in-aids Anrs r d = no (cc)
+in-aids Acrs r d = no (cc)
+in-aids Acds r d = no (cc)
+in-aids Awns r d = no (cc)
+
+-- an acceptor step says something else
+abbrev Else : Effect → Type 0
+Else x = x .said .event ≡ ev.Noacc → ⊥
+
+take-else : (t : Bool) (st : Standing) (p : Party) → Else (take t st p)
+take-else t Nothing p = λ h. no (cc)
+take-else t (Byte s k v e) p = cond-elim Else t (λ _. hear-events (λ (x : Event). x ≡ ev.Noacc → ⊥) (λ h. no (cc)) (λ h. no (cc)) (λ h. no (cc)) (meaning v) (p .role .listen)) (λ _ h. no (cc))
+
+acceptor-else : (a : Acceptor) (l : Lines) (st : Standing) (p : Party) → Else (acceptorStep a l st p)
+acceptor-else Aids l st p = λ h. no (cc)
+acceptor-else Anrs l st p = cond-elim Else (l .atn || not (isFull (p .input))) (λ _ h. no (cc)) (λ _ h. no (cc))
+acceptor-else Acrs l st p = cond-elim Else (l .dav) (λ _. take-else (l .atn) st p) (λ _ h. no (cc))
+acceptor-else Acds l st p = λ h. no (cc)
+acceptor-else Awns l st p = cond-elim Else (l .dav) (λ _ h. no (cc)) (λ _ h. no (cc))
+
+module _ (b : Bus) (I : Inv b) where
+  -- a step that leaves its party as it was leaves the bus
+  same : (i : ℕ) → i < b .count → (s : Said) → local b i s (here b i) (b .standing) .bus ≡ b
+  same i l s = rw (I .still i, set-same (b .parties) i (room b I i l)) refl
+
+  module _ (p v : ℕ) (e : Bool) (A : Alone b p v e) where
+    kind : Kind
+    kind = kindOf (isActive (here b p)) (isPolled (atnOf b) (here b p))
+
+    none : b .standing ≡ Nothing
+    none = nothing-stands (b .count) (atnOf b) (here b) (b .standing) (I .pre) (quiet b I) p (A .source) (λ h. let z = A .ready in no (cc))
+
+    as-noacc : m.call b (stepOf p) ≡ follow (atnOf b) b p (noacc kind v e (b .standing) (here b p))
+    unfolding kind
+    as-noacc = source-step b I p (A .there) (A .source) ∙ rw (A .ready, A .offers, A .quiet, A .nobody) refl
+
+    says : m.call b (stepOf p) ≡ kept b p v e
+    unfolding kind
+    says = as-noacc
+        ∙ touch-local b I p (A .there) (say ev.Noacc v (endOf kind e) 0) (here b p) (b .standing) (rw none refl)
+        ∙ rw (I .still p, set-same (b .parties) p (room b I p (A .there))) refl
+
+    unaided : (j : ℕ) → here b j .acceptor ≡ Aids
+    unaided j = in-aids (here b j .acceptor) (some-none (b .count) drivesNrfd (b .parties) refl (I .pre .tail) (A .quiet) j) (some-none (b .count) drivesNdac (b .parties) refl (I .pre .tail) (A .nobody) j)
+
+    -- a turn of any number
+    turn : (j : ℕ) → m.call b (stepOf j) .bus ≡ b
+    turn j = test (ltb j (b .count)) (λ h. inside (ltb-true j (b .count) h)) (λ h. rw (h, and-false (ltb j 15)) refl)
+      where
+        other : j < b .count → isSource (atnOf b) (here b j) ≡ false → m.call b (stepOf j) .bus ≡ b
+        other l ns = rw (as-local b I j (l, ns), unaided j) (same j l (say ev.None 0 false 0))
+
+        inside : j < b .count → m.call b (stepOf j) .bus ≡ b
+        inside l = test (isSource (atnOf b) (here b j))
+            (λ h. subst (λ (i : ℕ). m.call b (stepOf i) .bus ≡ b) (one-source b I p j (A .source) h) (ap (λ (a : Answer). a .bus) says))
+            (other l)
+
+    again : (turns : List ℕ) → m.run b (steps turns) ≡ b
+    again [] = refl
+    again (j ∷ js) = ap (λ (c : Bus). m.run c (steps js)) (turn j) ∙ again js
+
+  -- the other way: a step that says noacc is that of a source alone
+  module _ (p : ℕ) (l : p < b .count) where
+    Told : Effect → Type 0
+    Told x = follow (atnOf b) b p x .event ≡ ev.Noacc → (v : ℕ) × (e : Bool) × Alone b p v e
+
+    put-else : (k : Kind) (v : ℕ) (e : Bool) → Told (put k v e (place p) (here b p))
+    unfolding Told
+    put-else Command v e h = no (cc)
+    put-else Data v e h = no (cc)
+    put-else Status v e h = no (cc)
+
+    -- whatever follows on the end of a byte
+    over-else : (z : After) (v : ℕ) (e : Bool) (q : Party) → Told (record { said = say ev.Ended v e 0; after = z; party = q; standing = Nothing })
+    unfolding Told
+    over-else after.Settle v e q h = no (cc)
+    over-else (after.Pass j) v e q h = no (cc)
+    over-else after.Attend v e q h = no (cc)
+    over-else after.Clear v e q h = no (cc)
+
+    ended-else : (f : Found) (st : Standing) → Told (ended f st (here b p))
+    unfolding Told
+    ended-else f Nothing = λ h. no (cc)
+    ended-else f (Byte s k v e) = over-else (ended f (Byte s k v e) (here b p) .after) v e (ended f (Byte s k v e) (here b p) .party)
+
+    module _ (so : isSource (atnOf b) (here b p) ≡ true) where
+      its-offer : Slot
+      its-offer = offer (isPolled (atnOf b) (here b p)) (here b p)
+
+      its-kind : Kind
+      its-kind = kindOf (isActive (here b p)) (isPolled (atnOf b) (here b p))
+
+      ready-alone : here b p .source ≡ Sdys → (o : Slot) → its-offer ≡ o → Told (ready o its-kind (lines b) (b .standing) (place p) (here b p))
+      unfolding Told its-offer
+      ready-alone ex Empty eo = λ h. no (cc)
+      ready-alone ex (Full v e) eo = cond-elim Told (lines b .nrfd) (λ _ h. no (cc))
+          (λ nr. cond-elim Told (lines b .ndac) (λ _. put-else its-kind v e)
+          (λ nd _. (v, e, record { there = l; source = so; ready = ex; offers = eo; quiet = nr; nobody = nd })))
+
+      by-state : (x : Source) → here b p .source ≡ x → (f : Found) → Told (sourceStep x its-offer its-kind (lines b) f (b .standing) (place p) (here b p))
+      unfolding Told
+      by-state Sids ex f = λ h. no (cc)
+      by-state Sgns ex f = cond-elim Told (isFull its-offer) (λ _ h. no (cc)) (λ _ h. no (cc))
+      by-state Sdys ex f = ready-alone ex its-offer refl
+      by-state Strs ex f = cond-elim Told (lines b .ndac) (λ _ h. no (cc)) (λ _. ended-else f (b .standing))
+
+    inside-only : m.call b (stepOf p) .event ≡ ev.Noacc → (v : ℕ) × (e : Bool) × Alone b p v e
+    unfolding Told its-offer its-kind
+    inside-only h = test (isSource (atnOf b) (here b p))
+        (λ so. by-state so (here b p .source) refl (otherTalker (b .count) p (b .parties)) (sym (ap (λ (a : Answer). a .event) (source-step b I p l so)) ∙ h))
+        (λ ns. absurd (acceptor-else (here b p .acceptor) (lines b) (b .standing) (here b p) (sym (event-of b I p (l, ns)) ∙ h)))
+
+  only : (p : ℕ) → m.call b (stepOf p) .event ≡ ev.Noacc → (v : ℕ) × (e : Bool) × Alone b p v e
+  only p h = test (ltb p (b .count)) (λ t. inside-only p (ltb-true p (b .count) t) h) (λ f. let z : ev.None ≡ ev.Noacc = rw (f, and-false (ltb p 15)) at h in no (cc))
+
+keeps : (b : Bus) → Inv b → Keeps b
+keeps b I = record { says = says b I; again = again b I; only = only b I }
+
+pub keeps-byte : KeepsByte
+keeps-byte addresses system ok cs = keeps (m.run (build addresses system .bus) cs) (reached addresses system ok cs)
