@@ -102,7 +102,13 @@ static void p7_no_listener(void)
     EXPECT(NONE, meskvorn_bus_talk_only(bus, 0, 1));
     EXPECT(NONE, meskvorn_bus_write(bus, 0, 0x41, 1));
     EXPECT(MOVED, meskvorn_bus_step(bus, 0));
-    EXPECT("0 noacc 41 1 1 0", meskvorn_bus_step(bus, 0));
+    EXPECT("0 noacc 41 1 0 0", meskvorn_bus_step(bus, 0));
+    EXPECT("0 noacc 41 1 0 0", meskvorn_bus_step(bus, 0));
+    EXPECT(REFUSED(8), meskvorn_bus_write(bus, 0, 0x42, 0));
+    EXPECT(NONE, meskvorn_bus_listen_only(bus, 1, 1));
+    EXPECT(MOVED, meskvorn_bus_step(bus, 1));
+    EXPECT("0 data 41 1 0 0", meskvorn_bus_step(bus, 0));
+    EXPECT("0 took 41 1 0 0", meskvorn_bus_step(bus, 1));
     EXPECT(NONE, meskvorn_bus_write(bus, 0, 0x42, 0));
     EXPECT("0 none -- 0 1 0", meskvorn_bus_drop(bus, 0));
     EXPECT(NONE, meskvorn_bus_drop(bus, 0));

@@ -8,8 +8,8 @@ use crate::plan::{
     any_party, controller, likely_command, likely_register, likely_turns, scenario, Goal,
 };
 use crate::random::Random;
-use crate::script::{self, Record, BUILD, CLEAR, LINES, LISTEN, POLL, READ, RESET, STANDBY};
-use crate::script::{STEP, TAKE, TALK, WRITE};
+use crate::script::{self, Record, BUILD, CLEAR, DROP, LINES, LISTEN, POLL, READ, RESET};
+use crate::script::{STANDBY, STEP, TAKE, TALK, WRITE};
 
 /// How one list behaves, in times per thousand.
 #[derive(Clone, Copy)]
@@ -306,6 +306,16 @@ impl Guided {
         self.bus.standing.is_some() || parties.any(|p| p.is_source(atn) && p.held.is_some())
     }
 
+    /// A source that nobody answers: mostly somebody joins, else it tries again or its byte goes.
+    fn unheard(&mut self, source: u8) -> Record {
+        let listener = any_party(&self.bus, &mut self.random);
+        match self.random.below(10) {
+            0..=4 => script::record(LISTEN, listener, 1, 0),
+            5 => script::record(DROP, source, 0, 0),
+            _ => script::record(STEP, source, 0, 0),
+        }
+    }
+
     /// A step that does something, where there is one; now and then any step, or a read.
     fn walk(&mut self) -> Record {
         let count = self.bus.count;
@@ -324,10 +334,7 @@ impl Guided {
             }
             match self.bus.clone().step(place as u8).event {
                 Event::None => {}
-                Event::Noacc if self.random.per_mille(600) => {
-                    let listener = any_party(&self.bus, &mut self.random);
-                    return script::record(LISTEN, listener, 1, 0);
-                }
+                Event::Noacc => return self.unheard(place as u8),
                 _ => return script::record(STEP, place as u8, 0, 0),
             }
         }

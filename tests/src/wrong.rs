@@ -1,6 +1,7 @@
 //! Machines with one mistake each, for testing the tests.
 
 mod faults;
+mod noacc;
 mod runs;
 
 pub use faults::{Fault, FAULTS};

@@ -32,7 +32,7 @@ fn lines(bus: &mut Composer, wanted: u8) {
 }
 
 #[test]
-fn noacc_of_a_status_byte_keeps_the_held_byte() {
+fn a_status_byte_that_nobody_takes_is_kept_and_so_is_the_held_byte() {
     let mut bus = under_control(2);
     assert!(bus.command(SPE));
     bus.call(STANDBY, 0, 0, 0);
@@ -42,7 +42,48 @@ fn noacc_of_a_status_byte_keeps_the_held_byte() {
     assert_eq!(bus.step(1), Answer::moved());
     // The register waits for the end of the poll.
     assert_eq!(bus.step(1), told(Event::Noacc, 0x00));
+    assert_eq!(bus.step(1), told(Event::Noacc, 0x00));
+    assert_eq!(bus.call(LISTEN, 0, 1, 0), Answer::NOTHING);
+    assert_eq!(bus.step(0), Answer::moved());
+    assert_eq!(bus.step(1), told(Event::Stat, 0x00));
+    assert_eq!(bus.step(0), told(Event::Took, 0x00));
     assert_eq!(bus.call(DROP, 1, 0, 0), lost(1, 0));
+}
+
+#[test]
+fn a_command_that_nobody_takes_is_kept_until_it_is_off_offer() {
+    let mut bus = under_control(1);
+    bus.call(WRITE, 0, 0x3F, 1);
+    assert_eq!(bus.step(0), Answer::moved());
+    // A command has END off.
+    assert_eq!(bus.step(0), told(Event::Noacc, 0x3F));
+    assert_eq!(bus.step(0), told(Event::Noacc, 0x3F));
+    assert_eq!(bus.call(DROP, 0, 0, 0), lost(1, 0));
+    assert_eq!(bus.step(0), Answer::moved());
+    assert_eq!(bus.step(0), Answer::NOTHING);
+}
+
+#[test]
+fn a_listener_that_joined_in_awns_is_no_noacc() {
+    let mut bus = under_control(3);
+    bus.call(STANDBY, 0, 0, 0);
+    bus.call(TALK, 1, 1, 0);
+    bus.call(LISTEN, 2, 1, 0);
+    bus.call(WRITE, 1, 0x41, 0);
+    // The byte stands with one listener; the other joins in AWNS, and the first leaves.
+    bus.step(2);
+    assert_eq!(bus.step(1), Answer::moved());
+    assert_eq!(bus.step(1), told(Event::Data, 0x41));
+    bus.call(LISTEN, 0, 1, 0);
+    bus.call(LISTEN, 2, 0, 0);
+    assert_eq!(bus.step(1), told(Event::Ended, 0x41));
+    // That one drives NRFD alone: the next byte waits for it.
+    bus.call(WRITE, 1, 0x42, 0);
+    assert_eq!(bus.step(1), Answer::moved());
+    assert_eq!(bus.step(1), Answer::NOTHING);
+    assert_eq!(bus.step(0), Answer::moved());
+    assert_eq!(bus.step(0), Answer::moved());
+    assert_eq!(bus.step(1), told(Event::Data, 0x42));
 }
 
 #[test]

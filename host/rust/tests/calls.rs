@@ -77,19 +77,18 @@ fn a_clone_goes_its_own_way() {
 }
 
 #[test]
-fn p7_no_listener_drops_the_byte() {
-    let mut bus = built(1);
+fn p7_no_listener_keeps_the_byte() {
+    let mut bus = built(2);
     assert_eq!(bus.talk_only(0, true), NONE);
     assert_eq!(bus.write(0, 0x41, true), NONE);
     assert_eq!(bus.write(0, 0x42, true), refused(Refusal::Full));
     assert_eq!(bus.step(0), MOVED);
-    assert_eq!(
-        bus.step(0),
-        Answer {
-            dropped: 1,
-            ..accepted(Event::Noacc, 0x41, true)
-        }
-    );
+    assert_eq!(bus.step(0), accepted(Event::Noacc, 0x41, true));
+    assert_eq!(bus.step(0), accepted(Event::Noacc, 0x41, true));
+    assert_eq!(bus.listen_only(1, true), NONE);
+    assert_eq!(bus.step(1), MOVED);
+    assert_eq!(bus.step(0), accepted(Event::Data, 0x41, true));
+    assert_eq!(bus.step(1), accepted(Event::Took, 0x41, true));
     assert_eq!(bus.write(0, 0x42, true), NONE);
     assert_eq!(bus.drop_byte(0), Answer { dropped: 1, ..NONE });
 }

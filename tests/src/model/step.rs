@@ -49,21 +49,15 @@ impl Bus {
                     Answer::moved()
                 }
                 Some(_) if lines & NRFD != 0 => Answer::NOTHING,
-                Some((kind, data)) if lines & NDAC == 0 => self.not_accepted(place, kind, data),
+                // Nobody is there to take it: it stays where it is.
+                Some((_, data)) if lines & NDAC == 0 => {
+                    Answer::with_byte(Event::Noacc, data.value, data.end)
+                }
                 Some((kind, data)) => self.put(place, kind, data),
             },
             Source::Strs if lines & NDAC != 0 => Answer::NOTHING,
             Source::Strs => self.end(place),
         }
-    }
-
-    fn not_accepted(&mut self, place: usize, kind: Kind, data: Data) -> Answer {
-        let mut answer = Answer::with_byte(Event::Noacc, data.value, data.end);
-        self.parties[place].source = Source::Sgns;
-        if kind != Kind::Status {
-            self.drop_held(place, &mut answer);
-        }
-        answer
     }
 
     fn put(&mut self, place: usize, kind: Kind, data: Data) -> Answer {

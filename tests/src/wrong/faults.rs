@@ -1,7 +1,8 @@
 //! The faults: each alters the bus and the answer after the right call.
 
+use super::noacc;
 use crate::model::{Acceptor, Answer, Bus, Control, Data, Event, Kind, Party, Refusal, Service};
-use crate::model::{Source, DAV, NRFD, TCT};
+use crate::model::{Source, DAV, TCT};
 use crate::script::{self, Record, BUILD, CLEAR, LISTEN, POLL, RESET, STANDBY, STEP, TAKE, TALK};
 
 /// Takes the bus to alter, the bus before the call, the call, and the answer to alter.
@@ -14,7 +15,7 @@ pub const FAULTS: &[(&str, Fault)] = &[
     ("broken byte put again", broken_again),
     ("TCT acted on when heard", tct_when_heard),
     ("step always says none", step_says_none),
-    ("noacc with a listener present", noacc_too_soon),
+    ("noacc with a listener present", noacc::with_a_listener),
     ("all writes refused", writes_refused),
     ("took leaves data-in empty", took_unfilled),
     ("dropped counted twice", dropped_twice),
@@ -28,8 +29,19 @@ pub const FAULTS: &[(&str, Fault)] = &[
     ("reset keeps data-in", reset_keeps_data_in),
     (
         "noacc of a status byte drops the held byte",
-        status_noacc_drops,
+        noacc::drops_behind_status,
     ),
+    ("noacc drops its byte", noacc::drops),
+    ("noacc goes back to SGNS", noacc::goes_back),
+    (
+        "noacc of a status byte goes back to SGNS",
+        noacc::status_goes_back,
+    ),
+    (
+        "noacc of a command goes back to SGNS",
+        noacc::command_goes_back,
+    ),
+    ("a second noacc says none", noacc::silent_again),
     ("listen-only off under ATN to AIDS", off_under_atn),
     ("listen-only on under ATN moves the acceptor", on_under_atn),
     ("value refused before party", value_first),
@@ -52,15 +64,15 @@ pub const FAULTS: &[(&str, Fault)] = &[
     ("END lost in taking", end_lost),
 ];
 
-fn is(call: Record, answer: &Answer, operation: u8) -> bool {
+pub(super) fn is(call: Record, answer: &Answer, operation: u8) -> bool {
     call[2] == operation && answer.accepted()
 }
 
-fn actor(bus: &mut Bus, call: Record) -> &mut Party {
+pub(super) fn actor(bus: &mut Bus, call: Record) -> &mut Party {
     &mut bus.parties[usize::from(call[3])]
 }
 
-fn was(before: &Bus, call: Record) -> &Party {
+pub(super) fn was(before: &Bus, call: Record) -> &Party {
     &before.parties[usize::from(call[3])]
 }
 
@@ -108,17 +120,6 @@ fn tct_when_heard(bus: &mut Bus, _: &Bus, call: Record, answer: &mut Answer) {
 fn step_says_none(_: &mut Bus, _: &Bus, call: Record, answer: &mut Answer) {
     if is(call, answer, STEP) {
         *answer = Answer::NOTHING;
-    }
-}
-
-fn noacc_too_soon(bus: &mut Bus, before: &Bus, call: Record, answer: &mut Answer) {
-    let waits = is(call, answer, STEP) && was(before, call).source == Source::Sdys;
-    if waits && before.line_bits() & NRFD != 0 {
-        if let Some(held) = actor(bus, call).held.take() {
-            *answer = Answer::with_byte(Event::Noacc, held.value, held.end);
-            answer.dropped = 1;
-            actor(bus, call).source = Source::Sgns;
-        }
     }
 }
 
@@ -196,12 +197,6 @@ fn clear_keeps_poll(bus: &mut Bus, before: &Bus, call: Record, answer: &mut Answ
 fn reset_keeps_data_in(bus: &mut Bus, before: &Bus, call: Record, answer: &mut Answer) {
     if is(call, answer, RESET) {
         actor(bus, call).data_in = was(before, call).data_in;
-    }
-}
-
-fn status_noacc_drops(bus: &mut Bus, before: &Bus, call: Record, answer: &mut Answer) {
-    if answer.event == Event::Noacc && was(before, call).is_polled(before.atn()) {
-        answer.dropped = u8::from(actor(bus, call).held.take().is_some());
     }
 }
 
