@@ -6,6 +6,7 @@ use mathlib.Core.List.{List, [], _∷_}
 use Prim.Native.Nat.{ℕ, zero, suc, _<_}
 use native.Mathlib.Omega.{arith}
 use native.Mathlib.Nat.{not-suc-le-zero, le-of-suc-le-suc}
+use lib.Dec.{ltb}
 use lib.ListN.{length, set}
 use lib.Seq.{getD-set-same, getD-set-other}
 use borrow.Author.Tests.{lt-ltb}
@@ -14,14 +15,14 @@ use Rattle.party.specs.Parts.{idle}
 use Rattle.party.specs.Driving.{isActive}
 use Rattle.party.specs.Sending.{isSource}
 use Rattle.party.specs.Settling.{settled}
-use Rattle.role.proofs.Logic.{no, cond-elim}
+use Rattle.role.proofs.Logic.{no, test, cond-elim}
 use Rattle.parties.specs.Places.{place, at, each, otherTalker}
 use Rattle.parties.proofs.Places.{some-set}
 use Rattle.effect.specs.Effects.{does}
 use Rattle.source_step.specs.SourceStep.{sourceEffect}
 use Rattle.acceptor_step.specs.AcceptorStep.{take, acceptorStep, acceptorEffect}
 use Rattle.accepted.specs.Accepted.{effect}
-use Rattle.bus.specs.Record.{here, lines}
+use Rattle.bus.specs.Record.{here, lines, refuse}
 use Rattle.bus.specs.Settling.{answered, deserted}
 use Rattle.bus.specs.Following.{touch, follow}
 use Rattle.bus.specs.Machine as m
@@ -30,6 +31,7 @@ use Rattle.bus.proofs.EachCall.{call-good}
 use Rattle.bus.proofs.Reached.{sender-is-source}
 use Rattle.steps.specs.Types.{Party, Acceptor, Aids, Anrs, Acrs, Acds, Awns, Lines, Standing, Nothing, Byte, Effect, Said, Bus, Answer}
 use Rattle.steps.specs.Types.after
+use Rattle.steps.specs.Types.ruling
 use Rattle.steps.specs.Steps.{stepOf}
 
 each-still : (n : ℕ) (f : Party → Party) (ps : List Party) → ((j : ℕ) → f (at ps j) ≡ at ps j) → each n f ps ≡ ps
@@ -48,7 +50,7 @@ abbrev pub local : Bus → ℕ → Said → Party → Standing → Answer
 local b i s q st = answered false s (record { parties = set (b .parties) i (settled (atnOf b) q); count = b .count; system = b .system; standing = st })
 
 module _ (b : Bus) (I : Inv b) (i : ℕ) (l : i < b .count) where
-  pub room : i < length (b .parties)
+  room : i < length (b .parties)
   room = let z = I .size in let s = I .small in omega arith
 
   pub touch-local : (s : Said) (q : Party) (st : Standing) → deserted (atnOf b) (set (b .parties) i q) st ≡ false → touch (atnOf b) b i (does s q st) ≡ local b i s q st
@@ -80,6 +82,10 @@ module _ (b : Bus) (I : Inv b) (i : ℕ) (l : i < b .count) where
 call-step : (b : Bus) → Inv b → (i : ℕ) → i < b .count
     → m.call b (stepOf i) ≡ follow (atnOf b) b i (effect (lines b) (otherTalker (b .count) i (b .parties)) (b .standing) (place i) (here b i))
 call-step b I i l = let s = I .small in rw (lt-ltb i 15 (omega arith), lt-ltb i (b .count) l) refl
+
+-- a step of no party is refused
+pub no-step : (b : Bus) (i : ℕ) → ltb i (b .count) ≡ false → m.call b (stepOf i) ≡ refuse ruling.NoParty b
+no-step b i h = test (ltb i 15) (λ t. rw (t, h) refl) (λ f. rw f refl)
 
 -- a source takes the source step
 pub source-step : (b : Bus) → Inv b → (i : ℕ) → i < b .count → isSource (atnOf b) (here b i) ≡ true

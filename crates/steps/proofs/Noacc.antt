@@ -1,25 +1,26 @@
 -- A byte with nobody to take it is kept.
 -- Assumes nothing.
 use mathlib.Core.Path.{_≡_, refl, sym, ap, _∙_, subst}
-use mathlib.Core.Bool.{Bool, true, false, not, _&&_, _||_}
+use mathlib.Core.Bool.{Bool, true, false, not, _||_}
 use mathlib.Core.List.{List, [], _∷_}
-use Prim.Native.Nat.{ℕ, zero, suc, _<_}
-use native.Mathlib.Nat.{not-suc-le-zero, le-of-suc-le-suc}
+use Prim.Native.Nat.{ℕ, _<_}
 use lib.Dec.{ltb}
-use lib.ListN.{length, set}
+use lib.Seq.{set-getD}
 use borrow.Author.Tests.{ltb-true}
 use Rattle.message.specs.Meaning.{meaning}
 use Rattle.offer.specs.Offer.{isFull, kindOf, endOf}
 use Rattle.role.proofs.Logic.{no, test, cond-elim}
 use Rattle.role.proofs.Roles.{hear-events}
+use Rattle.party.specs.Parts.{idle}
 use Rattle.party.specs.Driving.{isActive, nrfdAt, ndacAt, drivesNrfd, drivesNdac}
 use Rattle.party.specs.Sending.{isSource, isPolled, offer}
-use Rattle.parties.specs.Places.{place, at, otherTalker}
+use Rattle.parties.specs.Places.{place, otherTalker}
 use Rattle.parties.proofs.Places.{some-none}
 use Rattle.effect.specs.Effects.{say}
 use Rattle.source_step.specs.SourceStep.{put, noacc, ready, ended, sourceStep}
 use Rattle.acceptor_step.specs.AcceptorStep.{take, acceptorStep}
 use Rattle.bus.specs.Record.{here, lines, build}
+use Rattle.bus.specs.Settling.{answered}
 use Rattle.bus.specs.Following.{follow}
 use Rattle.bus.specs.Machine as m
 use Rattle.bus.proofs.Invariant.{Inv, atnOf, quiet}
@@ -30,18 +31,9 @@ use Rattle.steps.specs.Types.ev
 use Rattle.steps.specs.Types.after
 use Rattle.steps.specs.Steps.{stepOf, steps}
 use Rattle.steps.specs.Noacc.{Alone, kept, Keeps, KeepsByte}
-use Rattle.steps.proofs.Local.{local, room, touch-local, source-step, as-local, event-of}
+use Rattle.steps.proofs.Local.{local, touch-local, no-step, source-step, as-local, event-of}
 
-set-same : (ps : List Party) (i : ℕ) → i < length ps → set ps i (at ps i) ≡ ps
-set-same [] i h = absurd (not-suc-le-zero h)
-set-same (p ∷ ps) zero h = refl
-set-same (p ∷ ps) (suc i) h = ap (λ (x : List Party). p ∷ x) (set-same ps i (le-of-suc-le-suc h))
-
--- nobody drives NRFD or NDAC who takes no part
-and-false : (x : Bool) → (x && false) ≡ false
-and-false true = refl
-and-false false = refl
-
+-- who drives neither NRFD nor NDAC takes no part
 in-aids : (a : Acceptor) → nrfdAt a ≡ false → ndacAt a ≡ false → a ≡ Aids
 in-aids Aids r d = refl
 in-aids Anrs r d = no (cc)
@@ -66,8 +58,8 @@ acceptor-else Awns l st p = cond-elim Else (l .dav) (λ _ h. no (cc)) (λ _ h. n
 
 module _ (b : Bus) (I : Inv b) where
   -- a step that leaves its party as it was leaves the bus
-  same : (i : ℕ) → i < b .count → (s : Said) → local b i s (here b i) (b .standing) .bus ≡ b
-  same i l s = rw (I .still i, set-same (b .parties) i (room b I i l)) refl
+  same : (i : ℕ) (s : Said) → local b i s (here b i) (b .standing) ≡ answered false s b
+  same i s = rw (I .still i, set-getD (b .parties) i idle) refl
 
   module _ (p v : ℕ) (e : Bool) (A : Alone b p v e) where
     kind : Kind
@@ -84,17 +76,18 @@ module _ (b : Bus) (I : Inv b) where
     unfolding kind
     says = as-noacc
         ∙ touch-local b I p (A .there) (say ev.Noacc v (endOf kind e) 0) (here b p) (b .standing) (rw none refl)
-        ∙ rw (I .still p, set-same (b .parties) p (room b I p (A .there))) refl
+        ∙ same p (say ev.Noacc v (endOf kind e) 0)
 
+    -- nobody is there
     unaided : (j : ℕ) → here b j .acceptor ≡ Aids
     unaided j = in-aids (here b j .acceptor) (some-none (b .count) drivesNrfd (b .parties) refl (I .pre .tail) (A .quiet) j) (some-none (b .count) drivesNdac (b .parties) refl (I .pre .tail) (A .nobody) j)
 
-    -- a turn of any number
+    -- a turn of whichever party, or of none
     turn : (j : ℕ) → m.call b (stepOf j) .bus ≡ b
-    turn j = test (ltb j (b .count)) (λ h. inside (ltb-true j (b .count) h)) (λ h. rw (h, and-false (ltb j 15)) refl)
+    turn j = test (ltb j (b .count)) (λ h. inside (ltb-true j (b .count) h)) (λ h. ap (λ (a : Answer). a .bus) (no-step b j h))
       where
         other : j < b .count → isSource (atnOf b) (here b j) ≡ false → m.call b (stepOf j) .bus ≡ b
-        other l ns = rw (as-local b I j (l, ns), unaided j) (same j l (say ev.None 0 false 0))
+        other l ns = rw (as-local b I j (l, ns), unaided j) (ap (λ (a : Answer). a .bus) (same j (say ev.None 0 false 0)))
 
         inside : j < b .count → m.call b (stepOf j) .bus ≡ b
         inside l = test (isSource (atnOf b) (here b j))
@@ -157,7 +150,7 @@ module _ (b : Bus) (I : Inv b) where
         (λ ns. absurd (acceptor-else (here b p .acceptor) (lines b) (b .standing) (here b p) (sym (event-of b I p (l, ns)) ∙ h)))
 
   only : (p : ℕ) → m.call b (stepOf p) .event ≡ ev.Noacc → (v : ℕ) × (e : Bool) × Alone b p v e
-  only p h = test (ltb p (b .count)) (λ t. inside-only p (ltb-true p (b .count) t) h) (λ f. let z : ev.None ≡ ev.Noacc = rw (f, and-false (ltb p 15)) at h in no (cc))
+  only p h = test (ltb p (b .count)) (λ t. inside-only p (ltb-true p (b .count) t) h) (λ f. let z = ap (λ (a : Answer). a .event) (no-step b p f) in no (cc))
 
 keeps : (b : Bus) → Inv b → Keeps b
 keeps b I = record { says = says b I; again = again b I; only = only b I }
