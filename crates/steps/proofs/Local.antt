@@ -29,9 +29,11 @@ use Rattle.bus.specs.Machine as m
 use Rattle.bus.proofs.Invariant.{Inv, atnOf}
 use Rattle.bus.proofs.EachCall.{call-good}
 use Rattle.bus.proofs.Reached.{sender-is-source}
-use Rattle.steps.specs.Types.{Party, Acceptor, Aids, Anrs, Acrs, Acds, Awns, Lines, Standing, Nothing, Byte, Effect, Said, Bus, Answer}
-use Rattle.steps.specs.Types.after
-use Rattle.steps.specs.Types.ruling
+use Rattle.bus.specs.declared.Bus.{Bus}
+use Rattle.bus.specs.declared.Answer.{Answer}
+use Rattle.bus.specs.Types.{Party, Acceptor, Aids, Anrs, Acrs, Acds, Awns, Lines, Standing, Nothing, Byte, Effect, Said}
+use Rattle.bus.specs.Types.after
+use Rattle.bus.specs.Types.ruling
 use Rattle.steps.specs.Steps.{stepOf}
 
 each-still : (n : ℕ) (f : Party → Party) (ps : List Party) → ((j : ℕ) → f (at ps j) ≡ at ps j) → each n f ps ≡ ps

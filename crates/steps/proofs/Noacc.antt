@@ -26,9 +26,11 @@ use Rattle.bus.specs.Machine as m
 use Rattle.bus.proofs.Invariant.{Inv, atnOf, quiet}
 use Rattle.bus.proofs.Putting.{nothing-stands}
 use Rattle.bus.proofs.Reached.{reached, one-source}
-use Rattle.steps.specs.Types.{Party, Source, Sids, Sgns, Sdys, Strs, Acceptor, Aids, Anrs, Acrs, Acds, Awns, Slot, Empty, Full, Kind, Command, Data, Status, Event, Lines, Found, Standing, Nothing, Byte, Said, After, Effect, Bus, Answer}
-use Rattle.steps.specs.Types.ev
-use Rattle.steps.specs.Types.after
+use Rattle.bus.specs.declared.Bus.{Bus}
+use Rattle.bus.specs.declared.Answer.{Answer}
+use Rattle.bus.specs.Types.{Party, Source, Sids, Sgns, Sdys, Strs, Acceptor, Aids, Anrs, Acrs, Acds, Awns, Slot, Empty, Full, Kind, Command, Data, Status, Event, Lines, Found, Standing, Nothing, Byte, Said, After, Effect}
+use Rattle.bus.specs.Types.ev
+use Rattle.bus.specs.Types.after
 use Rattle.steps.specs.Steps.{stepOf, steps}
 use Rattle.steps.specs.Noacc.{Alone, kept, Keeps, KeepsByte}
 use Rattle.steps.proofs.Local.{local, touch-local, no-step, source-step, as-local, event-of}

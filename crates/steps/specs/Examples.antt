@@ -4,9 +4,9 @@ use mathlib.Core.Path.{_≡_}
 use mathlib.Core.Bool.{false}
 use mathlib.Core.List.{List, [], _∷_, map}
 use Rattle.parties.specs.Places.{place}
-use Rattle.steps.specs.Types.ev
-use Rattle.steps.specs.Types.ruling
-use Rattle.steps.specs.Types.call-of
+use Rattle.bus.specs.Types.ev
+use Rattle.bus.specs.Types.ruling
+use Rattle.bus.specs.Types.call-of
 use Rattle.bus.specs.Rows.{Run, outcome, expected, ok, moved, says, loses, refused, step, write, listenOnly, drop, clear, standby, run, sends}
 
 -- A controller with nobody beside it. Its command stays held, so that a second write is refused, until the host drops it: the source goes back to SGNS.

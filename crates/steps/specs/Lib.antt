@@ -1,5 +1,4 @@
 -- Steps by number of the party: what they change, and what they leave.
-pub mod Types
 pub mod Steps
 pub mod Noacc
 pub mod Examples

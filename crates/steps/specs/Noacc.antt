@@ -11,9 +11,11 @@ use Rattle.effect.specs.Effects.{say}
 use Rattle.bus.specs.Record.{here, lines, build}
 use Rattle.bus.specs.Settling.{answered}
 use Rattle.bus.specs.Machine as m
-use Rattle.steps.specs.Types.{Place, Sdys, Full, Bus, Answer, Call}
-use Rattle.steps.specs.Types.ev
-use Rattle.steps.specs.Types.ruling
+use Rattle.bus.specs.declared.Bus.{Bus}
+use Rattle.bus.specs.declared.Answer.{Answer}
+use Rattle.bus.specs.Types.{Place, Sdys, Full, Call}
+use Rattle.bus.specs.Types.ev
+use Rattle.bus.specs.Types.ruling
 use Rattle.steps.specs.Steps.{stepOf, steps}
 
 -- Party p is a source in SDYS with the byte v, END e, on offer, and there is no acceptor: nobody drives NRFD or NDAC.

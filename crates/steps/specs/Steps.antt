@@ -3,8 +3,8 @@
 use Prim.Native.Nat.{ℕ}
 use mathlib.Core.List.{List, map}
 use Rattle.parties.specs.Places.{place}
-use Rattle.steps.specs.Types.{Call}
-use Rattle.steps.specs.Types.call-of
+use Rattle.bus.specs.Types.{Call}
+use Rattle.bus.specs.Types.call-of
 
 -- The call that steps the party at a place; a step for each place of a list.
 abbrev pub stepOf : ℕ → Call
