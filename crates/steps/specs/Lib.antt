@@ -1,4 +1,4 @@
--- Steps by number of the party: what they change, and what they leave.
+-- The calls that give a turn, and what is proved of a step: what it changes, and what it leaves.
 pub mod Steps
 pub mod Noacc
 pub mod Examples
