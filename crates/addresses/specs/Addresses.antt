@@ -1,33 +1,49 @@
--- The addresses of a build (document 01, "The bus record" and the refusal BADBUILD).
+-- The addresses of a build (document 01, "The bus record" and the refusal BADBUILD; document 02, Q-3).
 -- Assumes nothing.
 use Prim.Native.Nat.{ℕ, zero, suc}
-use mathlib.Core.Bool.{Bool, false, not, _||_}
+use mathlib.Core.Bool.{Bool, false, not, cond, _||_}
 use mathlib.Core.List.{List, [], _∷_}
 use lib.Dec.{ltb, eqb}
 use lib.ListN.{length}
-use Rattle.message.specs.Meaning.{address}
+use Rattle.message.specs.Meaning.{address, secondary}
+use Rattle.names.specs.declared.Secondary.{Secondary}
+use Rattle.names.specs.declared.Secondary.the-variants.{Absent, Given}
+use Rattle.names.specs.declared.Name.{Name}
+use Rattle.names.specs.Names.{plain, over30, clash}
 use Rattle.party.specs.declared.Place.{Place}
 use Rattle.party.specs.declared.Party.{Party}
 use Rattle.party.specs.Parts.{idle, newborn}
 
--- The parties at n places: one for each address, then the idle party. "places without a party hold it"
-abbrev pub placed : ℕ → List ℕ → List Party
+-- A secondary as a host gives it: 255 says that there is none.
+abbrev pub secondaryOf : ℕ → Secondary
+secondaryOf s = cond (eqb s 255) Absent (Given (secondary s))
+
+-- The names that a list of addresses and one of secondaries give: where the second has ended there is no secondary, and what it has past the last address is
+-- nobody's.
+abbrev pub names : List ℕ → List ℕ → List Name
+names [] ss = []
+names (a ∷ xs) [] = plain (address a) ∷ names xs []
+names (a ∷ xs) (s ∷ ss) = record { address = address a; secondary = secondaryOf s } ∷ names xs ss
+
+-- The parties at n places: one for each name, then the idle party. "places without a party hold it"
+abbrev pub placed : ℕ → List Name → List Party
 placed zero xs = []
 placed (suc n) [] = idle ∷ placed n []
-placed (suc n) (a ∷ xs) = newborn (address a) ∷ placed n xs
+placed (suc n) (x ∷ xs) = newborn x ∷ placed n xs
 
-abbrev pub anyOver30 : List ℕ → Bool
+abbrev pub anyOver30 : List Name → Bool
 anyOver30 [] = false
-anyOver30 (a ∷ xs) = ltb 30 a || anyOver30 xs
+anyOver30 (x ∷ xs) = over30 x || anyOver30 xs
 
-abbrev pub isAmong : ℕ → List ℕ → Bool
-isAmong a [] = false
-isAmong a (x ∷ xs) = eqb a x || isAmong a xs
+abbrev pub clashesWith : Name → List Name → Bool
+clashesWith n [] = false
+clashesWith n (x ∷ xs) = clash n x || clashesWith n xs
 
-abbrev pub twoEqual : List ℕ → Bool
-twoEqual [] = false
-twoEqual (a ∷ xs) = isAmong a xs || twoEqual xs
+abbrev pub twoClash : List Name → Bool
+twoClash [] = false
+twoClash (x ∷ xs) = clashesWith x xs || twoClash xs
 
--- "BADBUILD: 0 or over 15 parties, address over 30, two equal, no such system party"
-abbrev pub badBuild : List ℕ → Place → Bool
-badBuild xs s = eqb (length xs) 0 || ltb 15 (length xs) || anyOver30 xs || twoEqual xs || not (ltb (s .0) (length xs))
+-- "BADBUILD: 0 or over 15 parties, address over 30, two equal, no such system party". Document 02, Q-3: "Two parties may share a primary only if both have
+-- secondaries and these differ; otherwise, or with a secondary over 30, BADBUILD."
+abbrev pub badBuild : List Name → Place → Bool
+badBuild xs s = eqb (length xs) 0 || ltb 15 (length xs) || anyOver30 xs || twoClash xs || not (ltb (s .0) (length xs))

@@ -14,10 +14,11 @@ use Rattle.offer.specs.Offer.{isFull}
 use Rattle.party.specs.Driving.{isActive}
 use Rattle.party.specs.Settling.{attended, attendedAcceptor, settled}
 use Rattle.role.proofs.Logic.{no}
-use Rattle.role.proofs.Roles.{nameOf, Apart, Single}
+use Rattle.role.proofs.Roles.{nameOf, Apart, marked, unmarked, Single}
+use Rattle.party.proofs.Settled.{attended-unmarked}
 use Rattle.parties.specs.Places.{at, some, each, total}
 use Rattle.parties.proofs.Places.{at-each, each-below, each-past, some-seen, some-each, length-each, total-each}
-use Rattle.bus.specs.Types.{Party, Strs, Acceptor, Aids, Anrs, Acrs, Acds, Standing, Nothing, Byte, Bus, Said}
+use Rattle.bus.specs.Types.{Name, Party, Strs, Acceptor, Aids, Anrs, Acrs, Acds, Standing, Nothing, Byte, Bus, Said}
 use Rattle.effect.specs.Stands.{stands}
 use Rattle.bus.specs.Settling.{attend}
 use Rattle.bus.proofs.Invariant.{busy, Pre, Inv, kept-pre, seen, seen-still}
@@ -69,7 +70,7 @@ heed-pre t n v P a = record {
   tail = heeded-all t n v (λ j x. n ≤ j → x ≡ idle) (λ j l h. absurd (bad j l h)) (λ j l. P .tail j);
   atnIf = λ j h. a j (sym (heeded-same t n v Bool isActive (λ p. refl) j) ∙ h);
   charge = λ i j e f. P .charge i j (sym (heeded-same t n v Bool (λ x. busy (x .control)) (λ p. refl) i) ∙ e) (sym (heeded-same t n v Bool (λ x. busy (x .control)) (λ p. refl) j) ∙ f);
-  addr = same-apart n (λ j. v j .role) (λ j. heeded t n v j .role) (heeded-same t n v ℕ (λ x. nameOf (x .role)) (λ p. refl)) (P .addr);
+  addr = same-apart n (λ j. v j .role) (λ j. heeded t n v j .role) (heeded-same t n v Name (λ x. nameOf (x .role)) (λ p. refl)) (P .addr);
   sends = heeded-all t n v (λ j x. x .source ≡ Strs → false ≡ true) (λ j l e. no (cc)) (λ j l e. let z = P .tail j l in no (cc));
   sent = λ j h. no (cc);
   kind = λ h. no (cc);
@@ -79,7 +80,7 @@ heed-pre t n v P a = record {
   others = λ e. heeded-all t n v (λ j x. j < n → isActive x ≡ false → x .acceptor ≡ Aids → ⊥) (λ j l m h q. no (under e (v j) h q)) (λ j l m. absurd (bad j m l));
   listens = λ e. heeded-all t n v (λ j x. x .role .listen ≡ false → x .acceptor ≡ Aids) (λ j l h. rw (e, h)) (λ j l h. ap (λ (x : Party). x .acceptor) (P .tail j l));
   joins = λ e. heeded-all t n v (λ j x. x .role .listen ≡ true → x .acceptor ≡ Aids → ⊥) (λ j l h q. let z : attended t (v j) .acceptor ≡ Anrs = rw (e, h) in no (cc)) (λ j l h. let z = ap (λ (x : Party). x .role .listen) (P .tail j l) in no (cc));
-  heard = record { one = λ i j e f. P .talk i j (sym (heeded-same t n v Bool (λ x. x .role .talk) (λ p. refl) i) ∙ e) (sym (heeded-same t n v Bool (λ x. x .role .talk) (λ p. refl) j) ∙ f) };
+  heard = unmarked (λ j. heeded t n v j .role) (λ i j e f. P .talk i j (sym (heeded-same t n v Bool (λ x. x .role .talk) (λ p. refl) i) ∙ e) (sym (heeded-same t n v Bool (λ x. x .role .talk) (λ p. refl) j) ∙ f)) (heeded-all t n v (λ j x. marked (x .role) ≡ false) (λ j l. attended-unmarked t (v j)) (λ j l. ap (λ (x : Party). marked (x .role)) (P .tail j l)));
   apart = heeded-all t n v (λ j x. Single (x .role)) (λ j l. P .apart j) (λ j l. P .apart j);
   empty = λ e. heeded-all t n v (λ j x. x .acceptor ≡ Acrs → isFull (x .input) ≡ false) (λ j l h. absurd (attended-taker t (isActive (v j)) (v j .role .listen) (inl h))) (λ j l h. ap (λ (x : Party). isFull (x .input)) (P .tail j l));
   plain = λ h. no (cc);

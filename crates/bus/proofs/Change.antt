@@ -1,6 +1,6 @@
 -- One party changes and what stands stays: what the change must keep for the invariant to hold.
 -- Assumes nothing.
-use mathlib.Core.Path.{_≡_, refl, sym, _∙_}
+use mathlib.Core.Path.{_≡_, refl, sym, ap, _∙_}
 use mathlib.Core.Bool.{Bool, true, false, cond}
 use Prim.Native.Nat.{ℕ, _≤_, _<_}
 use native.Mathlib.Omega.{arith}
@@ -10,9 +10,10 @@ use Rattle.party.specs.Parts.{idle}
 use Rattle.offer.specs.Offer.{isFull}
 use Rattle.party.specs.Driving.{isActive}
 use Rattle.party.specs.Sending.{isSource, isPolled}
+use Rattle.names.specs.Names.{clash}
 use Rattle.role.proofs.Roles.{nameOf, Single, Apart, Addressed, Weak, weak-same, weaken}
 use Rattle.parties.proofs.Places.{upd}
-use Rattle.bus.specs.Types.{Party, Strs, Aids, Anrs, Acrs, Role, Standing}
+use Rattle.bus.specs.Types.{Name, Party, Strs, Aids, Anrs, Acrs, Role, Standing}
 use Rattle.effect.specs.Stands.{stands}
 use Rattle.bus.proofs.Invariant.{busy, sentBy, ofStatus, standsOf, look, Pre}
 
@@ -34,13 +35,13 @@ upd-unique v i q f u h = upd-all v i q (λ a x. (b : ℕ) → f x ≡ true → f
     (λ a ne. upd-all v i q (λ b y. f (v a) ≡ true → f y ≡ true → a ≡ b) (λ e k. absurd (h k a e ne)) (λ b me e k. u a b e k))
 
 pub same-apart : (n : ℕ) (v u : ℕ → Role) → ((j : ℕ) → nameOf (u j) ≡ nameOf (v j)) → Apart n v → Apart n u
-same-apart n v u h D i j li lj e = D i j li lj (sym (h i) ∙ e ∙ h j)
+same-apart n v u h D i j li lj e = D i j li lj (sym (ap (λ (x : Name). clash (nameOf (v i)) x) (h j)) ∙ sym (ap (λ (x : Name). clash x (nameOf (u j))) (h i)) ∙ e)
 
 pub upd-apart : (n : ℕ) (v : ℕ → Party) (i : ℕ) (q : Party) → nameOf (q .role) ≡ nameOf (v i .role) → Apart n (λ j. v j .role) → Apart n (λ j. upd v i q j .role)
 upd-apart n v i q e = same-apart n (λ j. v j .role) (λ j. upd v i q j .role) (upd-all v i q (λ j x. nameOf (x .role) ≡ nameOf (v j .role)) e (λ j ne. refl))
 
 -- party i claims no more than it did
-pub weak-look : (v : ℕ → Party) (st : Standing) (i : ℕ) (q : Party) → Weak (look st i (v i)) (look st i q) → Addressed (λ j. look st j (v j)) → Addressed (λ j. look st j (upd v i q j))
+pub weak-look : {atn : Bool} (v : ℕ → Party) (st : Standing) (i : ℕ) (q : Party) → Weak (look st i (v i)) (look st i q) → Addressed atn (λ j. look st j (v j)) → Addressed atn (λ j. look st j (upd v i q j))
 weak-look v st i q h = weaken (λ j. look st j (v j)) (λ j. look st j (upd v i q j)) (upd-all v i q (λ j x. Weak (look st j (v j)) (look st j x)) h (λ j ne. weak-same (look st j (v j)) (look st j (v j)) refl))
 
 -- p becomes q: what that keeps
@@ -62,7 +63,7 @@ pub record Kept (atn : Bool) (st : Standing) (p q : Party) : Type 0 where
   pub polls : p .source ≡ Strs → isSource atn q ≡ true → (isSource atn p ≡ true) × (isPolled atn p ≡ true → isPolled atn q ≡ true)
 
 pub keep-pre : (n : ℕ) (atn : Bool) (v : ℕ → Party) (st : Standing) → Pre n atn v st → (i : ℕ) → i < n → (q : Party) → Kept atn st (v i) q
-    → Addressed (λ j. look st j (upd v i q j)) → Pre n atn (upd v i q) st
+    → Addressed atn (λ j. look st j (upd v i q j)) → Pre n atn (upd v i q) st
 keep-pre n atn v st P i l q K o = record {
   tail = upd-all v i q (λ j x. n ≤ j → x ≡ idle) (λ h. absurd (bad h)) (λ j ne. P .tail j);
   atnIf = upd-all v i q (λ j x. isActive x ≡ true → atn ≡ true) (λ h. P .atnIf i (sym (K .act) ∙ h)) (λ j ne. P .atnIf j);

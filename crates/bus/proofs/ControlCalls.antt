@@ -136,7 +136,7 @@ module _ (b : Bus) (I : Inv b) (p : Place) where
         polled = λ _ x. absurd (mute (atnOf b) .0 x);
         polls = λ _ x. absurd (mute (atnOf b) .1 x);
       })
-      (weak-look (here b) (b .standing) (p .0) new (cond-elim (Weak (look (b .standing) (p .0) (here b (p .0)))) (waits (b .standing) (p .0) (new .acceptor)) (λ h. absurd (gone h)) (λ _. weak-unaddressed (look (b .standing) (p .0) (here b (p .0))) (here b (p .0) .role .address))) (I .pre .heard))
+      (weak-look (here b) (b .standing) (p .0) new (cond-elim (Weak (look (b .standing) (p .0) (here b (p .0)))) (waits (b .standing) (p .0) (new .acceptor)) (λ h. absurd (gone h)) (λ _. weak-unaddressed (look (b .standing) (p .0) (here b (p .0))) (here b (p .0) .role .name))) (I .pre .heard))
       (record {
         notPut = refl;
         notEnd = refl;

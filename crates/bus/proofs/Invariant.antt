@@ -8,7 +8,8 @@ use native.Mathlib.Omega.{arith}
 use lib.ListN.{length}
 use lib.Dec.{eqb}
 use borrow.Author.Tests.{eqb-true, eq-eqb}
-use Rattle.message.specs.Meaning.{meaning}
+use Rattle.message.specs.Meaning.{address, meaning}
+use Rattle.names.specs.Names.{plain}
 use Rattle.message.specs.declared.Meaning.the-variants.{Other}
 use Rattle.party.specs.Parts.{idle}
 use Rattle.offer.specs.Offer.{isFull}
@@ -96,7 +97,7 @@ pub record Pre (n : ℕ) (atn : Bool) (v : ℕ → Party) (st : Standing) : Type
   pub atnIf : (j : ℕ) → isActive (v j) ≡ true → atn ≡ true
   -- one party at most is active or in standby: one driver of ATN, also after take control
   pub charge : (i j : ℕ) → busy (v i .control) ≡ true → busy (v j .control) ≡ true → i ≡ j
-  -- no two parties answer to one address, so a talk address turns one talk on at most
+  -- no two parties answer to the same bytes, so a talk address with its secondary turns one talk on at most
   pub addr : Apart n (λ j. v j .role)
   -- who is in STRS sent what stands: one driver of DAV
   pub sends : (j : ℕ) → v j .source ≡ Strs → sentBy j st ≡ true
@@ -116,8 +117,8 @@ pub record Pre (n : ℕ) (atn : Bool) (v : ℕ → Party) (st : Standing) : Type
   pub listens : atn ≡ false → (j : ℕ) → v j .role .listen ≡ false → v j .acceptor ≡ Aids
   -- with ATN false a listener takes part, so a byte that has a listener is put
   pub joins : atn ≡ false → (j : ℕ) → v j .role .listen ≡ true → v j .acceptor ≡ Aids → ⊥
-  -- once all have heard what stands, one party at most talks
-  pub heard : Addressed (λ j. look st j (v j))
+  -- once all have heard what stands, one party at most talks, and no secondary can make a second one talk
+  pub heard : Addressed atn (λ j. look st j (v j))
   -- a talker does not listen: its own acceptor never holds its byte up
   pub apart : (j : ℕ) → Single (v j .role)
   -- a ready acceptor of data has room for it
@@ -156,11 +157,11 @@ quiet b I j h = sym (ap (λ (p : Party). p .source) (I .still j)) ∙ settled-ot
 pub look-idle : (st : Standing) → isCommand st ≡ false → (j : ℕ) (p : Party) → look st j p ≡ p .role
 look-idle st c j p = rw c
 
-pub same-heard : (u w : ℕ → Role) → ((j : ℕ) → u j ≡ w j) → Addressed w → Addressed u
+pub same-heard : {atn : Bool} (u w : ℕ → Role) → ((j : ℕ) → u j ≡ w j) → Addressed atn w → Addressed atn u
 same-heard u w h = weaken w u (λ j. weak-same (w j) (u j) (h j))
 
 pub settled-idle : (t : Bool) → settled t idle ≡ idle
-settled-idle t = newborn-still t (record { 0 = 0 })
+settled-idle t = newborn-still t (plain (address 0))
 
 module _ (n : ℕ) (atn : Bool) (v : ℕ → Party) where
   -- settling breaks off what stands: its sender is no source any more

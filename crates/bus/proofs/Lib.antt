@@ -8,8 +8,9 @@
 -- to ACRS. It needs `sent` and `sends` (a byte stands just while its sender is in STRS, so that who joins sees DAV), and those need that at most one party is a source.
 -- With ATN true the source is the one party in charge (`charge`); with ATN false it is the talker. That at most one party talks is the hard part: while a talk address
 -- stands half heard, the old talker and the new one both talk. `look` is the role that a party will have once it has heard what stands, and `heard` says that among the looks
--- at most one talks. A put is the only call that does work for it: then every party waits to hear (`others`), and hearing one command keeps one talker, since addresses differ
--- (`hear-all` in crates/role/proofs/Roles.antt). Hearing itself, the own hearing at the end, and every acceptor move leave the looks as they were. Attention may drop only
+-- at most one talks. A put is the only call that does work for it: then every party waits to hear (`others`), and hearing one command keeps one talker, since no two names clash
+-- (`hear-all` in crates/role/proofs/Roles.antt). Where parties have secondaries, one talker is not enough to go on with: `Addressed` says besides that where somebody waits for its talk secondary who talks
+-- waits for one too, that all who wait have one primary, and that nobody waits with ATN false. A secondary then names one of those who wait, and silences the others. Hearing itself, the own hearing at the end, and every acceptor move leave the looks as they were. Attention may drop only
 -- when no command stands: that is what refusal 7 is for. `still` says that every party has settled, so that a call that changes one party changes no other.
 --
 -- Change, Putting, Attention. What becomes of the invariant where one party changes and what stands stays (`keep-pre`), where a byte is put or ends (`put-pre`, `end-pre`), and

@@ -13,7 +13,7 @@ use Rattle.party.specs.Driving.{isActive, nrfdAt, drivesNrfd}
 use Rattle.role.specs.Hearing.{hear}
 use Rattle.party.specs.Sending.{isSource, isPolled}
 use Rattle.role.proofs.Logic.{no, test, cond-elim, or-either}
-use Rattle.role.proofs.Roles.{nameOf, Apart, Addressed, hear-name, hear-all, Single, hear-single}
+use Rattle.role.proofs.Roles.{nameOf, Apart, live, Addressed, hear-name, hear-all, Single, hear-single}
 use Rattle.party.proofs.Settled.{source-case}
 use Rattle.parties.specs.Places.{place}
 use Rattle.parties.proofs.Places.{upd}
@@ -27,8 +27,8 @@ pub off-command : (n : ℕ) (atn : Bool) (v : ℕ → Party) (st : Standing) →
 off-command n atn v Nothing P e = refl
 off-command n atn v (Byte s k w x) P e = P .kind refl ∙ e
 
--- where no command stands, at most one party has talk on
-pub role-heard : (n : ℕ) (atn : Bool) (v : ℕ → Party) (st : Standing) → Pre n atn v st → isCommand st ≡ false → Addressed (λ j. v j .role)
+-- where no command stands, what holds once all have heard holds of the roles as they are
+pub role-heard : (n : ℕ) (atn : Bool) (v : ℕ → Party) (st : Standing) → Pre n atn v st → isCommand st ≡ false → Addressed atn (λ j. v j .role)
 role-heard n atn v st P c = same-heard (λ j. v j .role) (λ j. look st j (v j)) (λ j. sym (look-idle st c j (v j))) (P .heard)
 
 -- at most one party is a source
@@ -93,7 +93,7 @@ put-pre n atn v P i l q k x y er ec eb ei es F nrfd = record {
   others = others;
   listens = λ t. upd-all v i q (λ j x. x .role .listen ≡ false → x .acceptor ≡ Aids) (λ h. eb ∙ P .listens t i (rw er at h)) (λ j ne. P .listens t j);
   joins = λ t. upd-all v i q (λ j x. x .role .listen ≡ true → x .acceptor ≡ Aids → ⊥) (λ h f. P .joins t i (rw er at h) (sym eb ∙ f)) (λ j ne. P .joins t j);
-  heard = test (isCommand st) (λ c. hear-all n roles (λ j. look st j (upd v i q j)) apart base (codeOf st) (all c)) (λ c. same-heard (λ j. look st j (upd v i q j)) roles (λ j. look-idle st c j (upd v i q j)) base);
+  heard = test (isCommand st) (λ c. hear-all atn (sym (F .command) ∙ c) n roles (λ j. look st j (upd v i q j)) apart base (codeOf st) (all c)) (λ c. same-heard (λ j. look st j (upd v i q j)) roles (λ j. look-idle st c j (upd v i q j)) base);
   apart = upd-all v i q (λ j x. Single (x .role)) (rw er (P .apart i)) (λ j ne. P .apart j);
   empty = λ t. upd-all v i q (λ j x. x .acceptor ≡ Acrs → isFull (x .input) ≡ false) (λ h. ap isFull ei ∙ P .empty t i (sym eb ∙ h)) (λ j ne. P .empty t j);
   plain = F .plain;
@@ -132,7 +132,7 @@ put-pre n atn v P i l q k x y er ec eb ei es F nrfd = record {
     apart : Apart n roles
     apart = upd-apart n v i q (ap nameOf er) (P .addr)
 
-    base : Addressed roles
+    base : Addressed atn roles
     base = same-heard roles (λ j. v j .role) (upd-all v i q (λ j x. x .role ≡ v j .role) er (λ j ne. refl)) (P .heard)
 
     -- nobody is left out of a command
@@ -145,8 +145,8 @@ put-pre n atn v P i l q k x y er ec eb ei es F nrfd = record {
         other : (j ≡ i → ⊥) → isActive (upd v i q j) ≡ false
         other ne = upd-all v i q (λ k x. (k ≡ i → ⊥) → isActive x ≡ false) (λ h. absurd (h refl)) (λ k nk h. quiet k nk c) j ne
 
-    gone : (j : ℕ) → n ≤ j → look st j (upd v i q j) .talk ≡ false
-    gone j h = ap (λ (r : Role). r .talk) (look-off st j (upd v i q j) (rw (tailed j h) (far (isCommand st) (eqb j i) (test (eqb j i) (λ e. absurd (here e)) (λ e. e))))) ∙ ap (λ (p : Party). p .role .talk) (tailed j h)
+    gone : (j : ℕ) → n ≤ j → live (look st j (upd v i q j)) ≡ false
+    gone j h = ap live (look-off st j (upd v i q j) (rw (tailed j h) (far (isCommand st) (eqb j i) (test (eqb j i) (λ e. absurd (here e)) (λ e. e))))) ∙ ap (λ (p : Party). live (p .role)) (tailed j h)
       where
         here : eqb j i ≡ true → ⊥
         here e = let z = eqb-true j i e in omega arith
@@ -155,7 +155,7 @@ put-pre n atn v P i l q k x y er ec eb ei es F nrfd = record {
         far true x e = rw e
         far false x e = refl
 
-    all : isCommand st ≡ true → (j : ℕ) → look st j (upd v i q j) .talk ≡ true → (j < n) × (look st j (upd v i q j) ≡ hear (codeOf st) (roles j))
+    all : isCommand st ≡ true → (j : ℕ) → live (look st j (upd v i q j)) ≡ true → (j < n) × (look st j (upd v i q j) ≡ hear (codeOf st) (roles j))
     all c j h = test (ltb j n) (λ e. (ltb-true j n e, look-on st j (upd v i q j) (waiting c j (ltb-true j n e)))) (λ e. let z = gone j (ltb-false j n e) in no (cc))
 
 -- a byte ends, and a command is heard by its sender

@@ -10,9 +10,9 @@ use Rattle.party.specs.Sending.{isSource, isPolled}
 use Rattle.party.specs.Settling.{settled}
 use Rattle.role.proofs.Logic.{no, test, cond-elim}
 use Rattle.party.proofs.Settled.{settled-source}
-use Rattle.bus.specs.Types.{Place, Party, Sids, Strs, Aids, Acrs, Kind, Command, Data, Status, Byte, Bus, Answer, Call}
+use Rattle.bus.specs.Types.{Place, Name, Party, Sids, Strs, Aids, Acrs, Kind, Command, Data, Status, Byte, Bus, Answer, Call}
 use Rattle.bus.specs.Types.ruling
-use Rattle.bus.specs.Record.{here, built, build}
+use Rattle.bus.specs.Record.{here, built, buildExtended}
 use Rattle.addresses.specs.Addresses.{badBuild}
 use Rattle.bus.specs.Machine as m
 use Rattle.bus.proofs.Invariant.{sentBy, ofStatus, ofData, standsOf, Inv, atnOf, quiet}
@@ -21,7 +21,7 @@ use Rattle.bus.proofs.Built.{built-inv}
 use Rattle.bus.proofs.EachCall.{run-inv}
 
 -- the bus keeps the invariant
-pub reached : (xs : List ℕ) (s : Place) → build xs s .refusal ≡ ruling.Accepted → (cs : List Call) → Inv (m.run (build xs s .bus) cs)
+pub reached : (xs : List Name) (s : Place) → buildExtended xs s .refusal ≡ ruling.Accepted → (cs : List Call) → Inv (m.run (buildExtended xs s .bus) cs)
 reached xs s ok cs = cond-elim (λ (a : Answer). a .refusal ≡ ruling.Accepted → Inv (m.run (a .bus) cs)) (badBuild xs s)
     (λ _ r. no (cc))
     (λ e _. run-inv (built xs s) (built-inv xs s e) cs)

@@ -145,7 +145,7 @@ deserted-stands t ps Nothing e = e
 deserted-stands t ps (Byte s k v x) e = refl
 
 pub kept-good : (b : Bus) (c : Call) → Inv b → (i : ℕ) → i < b .count → (s : Said) (q : Party) → Kept (atnOf b) (b .standing) (here b i) q
-    → Addressed (λ j. look (b .standing) j (upd (here b) i q j))
+    → Addressed (atnOf b) (λ j. look (b .standing) j (upd (here b) i q j))
     → Word b c i s q → Good b c (touch (atnOf b) b i (does s q (b .standing)))
 kept-good b c I i l s q K o W = record {
   inv = touch-inv b I i l q s (b .standing) (K .act) (keep-pre (b .count) (atnOf b) (here b) (b .standing) (I .pre) i l q K o);

@@ -13,7 +13,7 @@ use Rattle.role.specs.Roles.{withFlags}
 use Rattle.party.specs.Driving.{isActive}
 use Rattle.party.specs.Sending.{isSource, isPolled}
 use Rattle.role.proofs.Logic.{no, test, cond-elim, cond-elim₂}
-use Rattle.role.proofs.Roles.{Addressed, Weak, weak-flags, hear-weak, Single}
+use Rattle.role.proofs.Roles.{Addressed, Weak, marked, unmarked, weak-flags, hear-weak, Single}
 use Rattle.party.proofs.Settled.{source-case, source-of-active}
 use Rattle.parties.specs.Places.{place, otherTalker, isFound}
 use Rattle.parties.proofs.Places.{upd, first-none}
@@ -33,7 +33,7 @@ use Rattle.bus.specs.Machine.{refusal, accepted}
 use Rattle.bus.specs.Delivery.{wrote}
 use Rattle.bus.proofs.Invariant.{isCommand, codeOf, waits, look, look-idle, same-heard, Inv, atnOf}
 use Rattle.bus.proofs.Invariant as invariant
-use Rattle.bus.proofs.Change.{weak-look, upd-unique}
+use Rattle.bus.proofs.Change.{upd-all, weak-look, upd-unique}
 use Rattle.bus.proofs.Putting.{role-heard, off-command}
 use Rattle.bus.proofs.Accepting.{known, switched, off-is-0, stands-dav, joining-away, joining-dav}
 use Rattle.bus.proofs.Summary.{Good, Word, Left, kept-good}
@@ -46,7 +46,7 @@ unpolled false x e = no (cc)
 
 module _ (b : Bus) (I : Inv b) (p : Place) where
   -- talk or listen switched by the host: who is to hear what stands claims no more than before
-  flag-heard : (t o : Bool) → (t ≡ true → here b (p .0) .role .talk ≡ true) → Addressed (λ j. look (b .standing) j (upd (here b) (p .0) (withRole (withFlags t o (here b (p .0) .role)) (here b (p .0))) j))
+  flag-heard : (t o : Bool) → (t ≡ true → here b (p .0) .role .talk ≡ true) → Addressed (atnOf b) (λ j. look (b .standing) j (upd (here b) (p .0) (withRole (withFlags t o (here b (p .0) .role)) (here b (p .0))) j))
   flag-heard t o h = weak-look (here b) (b .standing) (p .0) (withRole (withFlags t o (here b (p .0) .role)) (here b (p .0)))
       (cond-elim₂ Weak (waits (b .standing) (p .0) (here b (p .0) .acceptor)) (λ _. hear-weak (codeOf (b .standing)) t o (here b (p .0) .role) h) (λ _. weak-flags t o (here b (p .0) .role) h)) (I .pre .heard)
 
@@ -174,7 +174,7 @@ module _ (b : Bus) (I : Inv b) (p : Place) where
       → (here b (p .0) .source ≡ Strs → isPolled (atnOf b) (withRole (withFlags t (here b (p .0) .role .listen) (here b (p .0) .role)) (here b (p .0))) ≡ true → isPolled (atnOf b) (here b (p .0)) ≡ true)
       → (here b (p .0) .source ≡ Strs → isSource (atnOf b) (withRole (withFlags t (here b (p .0) .role .listen) (here b (p .0) .role)) (here b (p .0))) ≡ true
       → (isSource (atnOf b) (here b (p .0)) ≡ true) × (isPolled (atnOf b) (here b (p .0)) ≡ true → isPolled (atnOf b) (withRole (withFlags t (here b (p .0) .role .listen) (here b (p .0) .role)) (here b (p .0))) ≡ true))
-      → Addressed (λ j. look (b .standing) j (upd (here b) (p .0) (withRole (withFlags t (here b (p .0) .role .listen) (here b (p .0) .role)) (here b (p .0))) j))
+      → Addressed (atnOf b) (λ j. look (b .standing) j (upd (here b) (p .0) (withRole (withFlags t (here b (p .0) .role .listen) (here b (p .0) .role)) (here b (p .0))) j))
       → Good b c (touch (atnOf b) b (p .0) (does (say ev.None 0 false 0) (withRole (withFlags t (here b (p .0) .role .listen) (here b (p .0) .role)) (here b (p .0))) (b .standing)))
   talk-flag c t l k w s pd ps o = kept-good b c I (p .0) l (say ev.None 0 false 0) (withRole (withFlags t (here b (p .0) .role .listen) (here b (p .0) .role)) (here b (p .0)))
       (record {
@@ -202,13 +202,16 @@ module _ (b : Bus) (I : Inv b) (p : Place) where
   talk-on c l k w nl e f = talk-flag c true l k w (λ x y. no (cc))
       (λ s x. rw (talking e s) x)
       (λ s x. let z = talking e s in (rw z x, λ y. rw z at y))
-      (same-heard (λ j. look (b .standing) j (upd (here b) (p .0) new j)) (λ j. upd (here b) (p .0) new j .role) (λ j. look-idle (b .standing) off j (upd (here b) (p .0) new j)) (record { one = unique }))
+      (same-heard (λ j. look (b .standing) j (upd (here b) (p .0) new j)) (λ j. upd (here b) (p .0) new j .role) (λ j. look-idle (b .standing) off j (upd (here b) (p .0) new j)) (unmarked (λ j. upd (here b) (p .0) new j .role) unique nobody-waits))
     where
       new : Party
       new = withRole (withFlags true (here b (p .0) .role .listen) (here b (p .0) .role)) (here b (p .0))
 
       off : isCommand (b .standing) ≡ false
       off = off-command (b .count) (atnOf b) (here b) (b .standing) (I .pre) e
+
+      roles : Addressed (atnOf b) (λ j. here b j .role)
+      roles = role-heard (b .count) (atnOf b) (here b) (b .standing) (I .pre) off
 
       nowhere : (x : Found) → isFound x ≡ false → x ≡ Nowhere
       nowhere Nowhere h = refl
@@ -219,8 +222,12 @@ module _ (b : Bus) (I : Inv b) (p : Place) where
           (λ m. let z = first-none 0 (b .count) (λ q. q .role .talk) (set (b .parties) (p .0) idle) refl (nowhere (otherTalker (b .count) (p .0) (b .parties)) f) j (ltb-true j (b .count) m) in let y = getD-set-other (b .parties) (p .0) j idle idle ne in cc)
           (λ m. let z = ap (λ (q : Party). q .role .talk) (I .pre .tail j (ltb-false j (b .count) m)) in no (cc))
 
+      -- with ATN false nobody waits for a secondary
+      nobody-waits : (j : ℕ) → marked (upd (here b) (p .0) new j .role) ≡ false
+      nobody-waits = upd-all (here b) (p .0) new (λ j x. marked (x .role) ≡ false) (roles .off e (p .0)) (λ j ne. roles .off e j)
+
       unique : (i j : ℕ) → upd (here b) (p .0) new i .role .talk ≡ true → upd (here b) (p .0) new j .role .talk ≡ true → i ≡ j
-      unique = upd-unique (here b) (p .0) new (λ x. x .role .talk) (role-heard (b .count) (atnOf b) (here b) (b .standing) (I .pre) off .one) (λ h j g ne. no (solo j ne g))
+      unique = upd-unique (here b) (p .0) new (λ x. x .role .talk) (roles .one) (λ h j g ne. no (solo j ne g))
 
   talk-off : (c : Call) → p .0 < b .count → ((j : ℕ) → c ≡ call-of.Step (place j) → j ≡ p .0) → wrote c ruling.Accepted ≡ 0
       → Good b c (touch (atnOf b) b (p .0) (does (say ev.None 0 false 0) (withRole (withFlags false (here b (p .0) .role .listen) (here b (p .0) .role)) (here b (p .0))) (b .standing)))

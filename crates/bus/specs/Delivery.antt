@@ -9,12 +9,12 @@ use Prim.Native.Nat.{ℕ, _+_, _<_}
 use lib.ListN.{length, getD, take}
 use Rattle.party.specs.Parts.{one, heldBytes}
 use Rattle.parties.specs.Places.{place, total}
-use Rattle.bus.specs.Types.{Place, Active, Strs, Acrs, Acds, Full, Event, Bus, Answer, Call, Refusal}
+use Rattle.bus.specs.Types.{Place, Name, Active, Strs, Acrs, Acds, Full, Event, Bus, Answer, Call, Refusal}
 use Rattle.bus.specs.Types.ruling
 use Rattle.bus.specs.Types.ev
 use Rattle.bus.specs.Types.call-of
 use Rattle.effect.specs.Words.{isAccepted}
-use Rattle.bus.specs.Record.{here, refuse, build}
+use Rattle.bus.specs.Record.{here, refuse, buildExtended}
 use Rattle.effect.specs.Stands.{stands}
 use Rattle.bus.specs.Machine as m
 
@@ -180,6 +180,7 @@ module _ (b : Bus) (cs : List Call) where
         tally (λ x. wrote (x .call) (x .answer .refusal)) (history b cs)
         ≡ tally (λ x. one (isHostPut (x .answer .event))) (history b cs) + tally (λ x. x .answer .dropped) (history b cs) + held lastBus
 
--- Demand 3: "For every list of steps and host calls (any order, refused ones included, no build) from a bus that an accepted build gave".
+-- Demand 3: "For every list of steps and host calls (any order, refused ones included, no build) from a bus that an accepted build gave", with secondaries
+-- or without.
 abbrev pub Delivery : Type 0
-Delivery = (addresses : List ℕ) (system : Place) → build addresses system .refusal ≡ ruling.Accepted → (cs : List Call) → Delivered (build addresses system .bus) cs
+Delivery = (names : List Name) (system : Place) → buildExtended names system .refusal ≡ ruling.Accepted → (cs : List Call) → Delivered (buildExtended names system .bus) cs

@@ -6,9 +6,9 @@ use mathlib.Core.List.{List, []}
 use lib.ListN.{length}
 use Rattle.parties.specs.Places.{place, at}
 use Rattle.parties.specs.Lines.{linesOf}
-use Rattle.addresses.specs.Addresses.{placed, badBuild}
+use Rattle.addresses.specs.Addresses.{names, placed, badBuild}
 use Rattle.effect.specs.Stands.{hasEnd}
-use Rattle.bus.specs.Types.{Place, Party, Lines, Nothing, Bus, Answer, Refusal}
+use Rattle.bus.specs.Types.{Place, Name, Party, Lines, Nothing, Bus, Answer, Refusal}
 use Rattle.bus.specs.Types.ruling
 use Rattle.bus.specs.Types.ev
 
@@ -19,8 +19,8 @@ here b i = at (b .parties) i
 abbrev pub lines : Bus → Lines
 lines b = linesOf (b .count) (b .parties) (hasEnd (b .standing))
 
--- "Build takes the addresses and the system party."
-abbrev pub built : List ℕ → Place → Bus
+-- "Build takes the addresses and the system party." Document 02, Q-3: "A party may be built with a secondary address 0..30, or none."
+abbrev pub built : List Name → Place → Bus
 built xs s = record { parties = placed 15 xs; count = length xs; system = s; standing = Nothing }
 
 -- "the bus of no parties has system party 0"
@@ -32,5 +32,9 @@ abbrev pub refuse : Refusal → Bus → Answer
 refuse r b = record { refusal = r; event = ev.None; byte = 0; end = false; dropped = 0; broken = 0; bus = b }
 
 -- "except that a refused build .. leaves the bus of no parties". An accepted one has event none; settling leaves a bus just built as it is.
+abbrev pub buildExtended : List Name → Place → Answer
+buildExtended xs s = cond (badBuild xs s) (refuse ruling.BadBuild noParties) (refuse ruling.Accepted (built xs s))
+
+-- A build of parties without secondaries.
 abbrev pub build : List ℕ → Place → Answer
-build xs s = cond (badBuild xs s) (refuse ruling.BadBuild noParties) (refuse ruling.Accepted (built xs s))
+build xs s = buildExtended (names xs []) s

@@ -1,5 +1,4 @@
 -- The types that the machine speaks of, and their cases, under one name.
-pub use Rattle.message.specs.declared.Address.{Address}
 pub use Rattle.message.specs.declared.Meaning.{Meaning}
 pub use Rattle.party.specs.declared.Place.{Place}
 pub use Rattle.party.specs.declared.Control.{Control}
@@ -14,6 +13,7 @@ pub use Rattle.offer.specs.declared.Kind.{Kind}
 pub use Rattle.offer.specs.declared.Kind.the-variants.{Command, Data, Status}
 pub use Rattle.event.specs.declared.Event.{Event}
 pub use Rattle.event.specs.declared.Event.the-variants as ev
+pub use Rattle.names.specs.declared.Name.{Name}
 pub use Rattle.role.specs.declared.Role.{Role}
 pub use Rattle.party.specs.declared.Party.{Party}
 pub use Rattle.parties.specs.declared.Lines.{Lines}

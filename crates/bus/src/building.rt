@@ -2,26 +2,26 @@
 ghost use mathlib.Core.Path.{_≡_};
 ghost use Prim.Native.Nat.{_≤_};
 ghost use lib.ListN.{length};
-ghost use Rattle.addresses.specs.Addresses.{placed};
-ghost use Rattle.bus.specs.Record.{build};
+ghost use Rattle.addresses.specs.Addresses.{names, placed};
+ghost use Rattle.bus.specs.Record.{build, buildExtended};
 use crate::Answer;
 use crate::Bus;
 use addresses::is_bad;
+use addresses::name_at;
 use effect::Refusal;
 use effect::Standing;
-use message::Address;
 use party::Party;
 use party::Place;
 
-// A party for each address, then the idle party.
-fn parties_at(addresses: &[u8]) -> [Party; 15]
+// A party for each address, with its secondary, then the idle party.
+fn parties_at(addresses: &[u8], secondaries: &[u8]) -> [Party; 15]
     requires { ⌜ length (now addresses) ≤ 15 ⌝ }
-    ensures { λ r. ⌜ r ≡ placed 15 (now (addresses .entry)) ⌝ }
+    ensures { λ r. ⌜ r ≡ placed 15 (names (now (addresses .entry)) (now (secondaries .entry))) ⌝ }
 {
     let mut out = [Party::IDLE; 15];
     let mut k: usize = 0;
     while k < addresses.len() {
-        let p = Party::build(Address(addresses[k]));
+        let p = Party::build(name_at(addresses, secondaries, k));
         out[k] = p;
         k = k + 1;
     }
@@ -33,11 +33,18 @@ impl Bus {
     pub fn build(addresses: &[u8], system: Place) -> Answer
         ensures { λ r. ⌜ r ≡ build (now (addresses .entry)) system ⌝ }
     {
-        if is_bad(addresses, system) {
+        Bus::build_extended(addresses, b"", system)
+    }
+
+    // The same with the parties' secondaries: NO_SECONDARY, or none left in the list, where a party has none.
+    pub fn build_extended(addresses: &[u8], secondaries: &[u8], system: Place) -> Answer
+        ensures { λ r. ⌜ r ≡ buildExtended (names (now (addresses .entry)) (now (secondaries .entry))) system ⌝ }
+    {
+        if is_bad(addresses, secondaries, system) {
             return Bus::EMPTY.refuse(Refusal::BadBuild);
         }
         let bus = Bus {
-            parties: parties_at(addresses),
+            parties: parties_at(addresses, secondaries),
             count: (addresses.len() % 256) as u8,
             system,
             standing: Standing::Nothing,

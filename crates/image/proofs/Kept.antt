@@ -8,14 +8,23 @@ use lib.Seq.{take-at, getD-at}
 use Rattle.party.specs.Parts.{one}
 use Rattle.offer.specs.Offer.{isFull}
 use Rattle.effect.specs.Stands.{hasEnd}
-use Rattle.image.specs.Types.{Party, Control, Idle, Standby, Active, Source, Sids, Sgns, Sdys, Strs, Acceptor, Aids, Anrs, Acrs, Acds, Awns}
+use Rattle.image.specs.Types.{Secondary, Absent, Given, Mark, Unmarked, TalkPrimary, ListenPrimary, Party, Control, Idle, Standby, Active, Source, Sids, Sgns, Sdys, Strs, Acceptor, Aids, Anrs, Acrs, Acds, Awns}
 use Rattle.image.specs.Types.{Service, Nprs, Srqs, Aprs, Slot, Empty, Full, Command, Data, Status, Standing, Nothing, Byte, Bus}
-use Rattle.image.specs.Image.{controlNumber, sourceNumber, acceptorNumber, serviceNumber, slotValue, slotEnd, standingTag, standingSender, standingValue, rowOf, lastRow, rowsOf}
-use Rattle.image.specs.Image.{flag, controlOf, sourceOf, acceptorOf, serviceOf, slotOf, standingOf, partyOf, busOf}
+use Rattle.image.specs.Image.{markNumber, hasSecondary, secondaryNumber, controlNumber, sourceNumber, acceptorNumber, serviceNumber, slotValue, slotEnd, standingTag, standingSender, standingValue, rowOf, lastRow, rowsOf}
+use Rattle.image.specs.Image.{flag, markOf, secondaryOf, controlOf, sourceOf, acceptorOf, serviceOf, slotOf, standingOf, partyOf, busOf}
 
 flag-kept : (x : Bool) → flag (one x) ≡ x
 flag-kept true = refl
 flag-kept false = refl
+
+mark-kept : (x : Mark) → markOf (markNumber x) ≡ x
+mark-kept Unmarked = refl
+mark-kept TalkPrimary = refl
+mark-kept ListenPrimary = refl
+
+secondary-kept : (x : Secondary) → secondaryOf (one (hasSecondary x)) (secondaryNumber x) ≡ x
+secondary-kept Absent = refl
+secondary-kept (Given s) = refl
 
 control-kept : (x : Control) → controlOf (controlNumber x) ≡ x
 control-kept Idle = refl
@@ -51,7 +60,7 @@ standing-kept (Byte s Data v e) = ap (Byte s Data v) (flag-kept e)
 standing-kept (Byte s Status v e) = ap (Byte s Status v) (flag-kept e)
 
 party-kept : (p : Party) → partyOf (rowOf p) ≡ p
-party-kept p = rw (slot-kept (p .held), slot-kept (p .input)) (simp (flag-kept, control-kept, source-kept, acceptor-kept, service-kept))
+party-kept p = rw (slot-kept (p .held), slot-kept (p .input), secondary-kept (p .role .name .secondary)) (simp (flag-kept, mark-kept, control-kept, source-kept, acceptor-kept, service-kept))
 
 parties-kept : (ps : List Party) → map partyOf (map rowOf ps) ≡ ps
 parties-kept [] = refl

@@ -1,20 +1,25 @@
--- A bus as bytes: sixteen rows of sixteen, the party at place k in row k, and the rest of the bus in row 15.
+-- A bus as bytes: sixteen rows of twenty-four, the party at place k in row k, and the rest of the bus in row 15. Bytes that no part has are 0.
 -- Writing goes by the cases of each part; reading takes every row as something, so that no content is wrong.
 -- Assumes nothing.
 use Prim.Native.Nat.{ℕ}
-use mathlib.Core.Bool.{Bool, false, cond}
+use mathlib.Core.Bool.{Bool, true, false, cond}
 use mathlib.Core.List.{List, [], _∷_, _++_, map}
 use lib.ListN.{getD, take}
 use lib.Dec.{eqb}
-use Rattle.message.specs.Meaning.{address}
+use Rattle.message.specs.Meaning.{address, secondary}
 use Rattle.party.specs.Parts.{one}
 use Rattle.offer.specs.Offer.{isFull}
 use Rattle.parties.specs.Places.{place}
 use Rattle.effect.specs.Stands.{hasEnd}
-use Rattle.image.specs.Types.{Party, Control, Idle, Standby, Active, Source, Sids, Sgns, Sdys, Strs, Acceptor, Aids, Anrs, Acrs, Acds, Awns}
+use Rattle.image.specs.Types.{Secondary, Absent, Given, Mark, Unmarked, TalkPrimary, ListenPrimary, Role, Party, Control, Idle, Standby, Active, Source, Sids, Sgns, Sdys, Strs, Acceptor, Aids, Anrs, Acrs, Acds, Awns}
 use Rattle.image.specs.Types.{Service, Nprs, Srqs, Aprs, Slot, Empty, Full, Kind, Command, Data, Status, Standing, Nothing, Byte, Bus}
 
 -- The states by number, from 0 in the order of their declaration.
+abbrev pub markNumber : Mark → ℕ
+markNumber Unmarked = 0
+markNumber TalkPrimary = 1
+markNumber ListenPrimary = 2
+
 abbrev pub controlNumber : Control → ℕ
 controlNumber Idle = 0
 controlNumber Standby = 1
@@ -44,6 +49,15 @@ kindNumber Command = 1
 kindNumber Data = 2
 kindNumber Status = 3
 
+-- A secondary is two bytes: whether there is one, and its number; zeros where there is none.
+abbrev pub hasSecondary : Secondary → Bool
+hasSecondary Absent = false
+hasSecondary (Given s) = true
+
+abbrev pub secondaryNumber : Secondary → ℕ
+secondaryNumber Absent = 0
+secondaryNumber (Given s) = s .0
+
 -- A slot is three bytes: whether it is full, its byte, and its END; an empty one is zeros.
 abbrev pub slotValue : Slot → ℕ
 slotValue Empty = 0
@@ -69,7 +83,7 @@ standingValue (Byte s k v e) = v
 -- The row of a party.
 abbrev pub rowOf : Party → List ℕ
 rowOf p =
-    p .role .address .0
+    p .role .name .address .0
     ∷ one (p .role .talk)
     ∷ one (p .role .listen)
     ∷ one (p .role .poll)
@@ -85,7 +99,10 @@ rowOf p =
     ∷ p .request .live
     ∷ p .request .saved
     ∷ serviceNumber (p .request .service)
-    ∷ []
+    ∷ one (hasSecondary (p .role .name .secondary))
+    ∷ secondaryNumber (p .role .name .secondary)
+    ∷ markNumber (p .role .mark)
+    ∷ 0 ∷ 0 ∷ 0 ∷ 0 ∷ 0 ∷ []
 
 -- The last row: the number of parties, the system party, and what stands.
 abbrev pub lastRow : Bus → List ℕ
@@ -96,7 +113,7 @@ lastRow b =
     ∷ standingSender (b .standing)
     ∷ standingValue (b .standing)
     ∷ one (hasEnd (b .standing))
-    ∷ 0 ∷ 0 ∷ 0 ∷ 0 ∷ 0 ∷ 0 ∷ 0 ∷ 0 ∷ 0 ∷ 0 ∷ []
+    ∷ 0 ∷ 0 ∷ 0 ∷ 0 ∷ 0 ∷ 0 ∷ 0 ∷ 0 ∷ 0 ∷ 0 ∷ 0 ∷ 0 ∷ 0 ∷ 0 ∷ 0 ∷ 0 ∷ 0 ∷ 0 ∷ []
 
 unfoldable pub rowsOf : Bus → List (List ℕ)
 rowsOf b = map rowOf (b .parties) ++ (lastRow b ∷ [])
@@ -106,6 +123,9 @@ abbrev pub flag : ℕ → Bool
 flag n = eqb n 1
 
 -- The state of a number; a number that no state has is read as the first state.
+abbrev pub markOf : ℕ → Mark
+markOf n = cond (eqb n 1) TalkPrimary (cond (eqb n 2) ListenPrimary Unmarked)
+
 abbrev pub controlOf : ℕ → Control
 controlOf n = cond (eqb n 1) Standby (cond (eqb n 2) Active Idle)
 
@@ -117,6 +137,10 @@ acceptorOf n = cond (eqb n 1) Anrs (cond (eqb n 2) Acrs (cond (eqb n 3) Acds (co
 
 abbrev pub serviceOf : ℕ → Service
 serviceOf n = cond (eqb n 1) Srqs (cond (eqb n 2) Aprs Nprs)
+
+-- There is a secondary if its flag is on.
+abbrev pub secondaryOf : ℕ → ℕ → Secondary
+secondaryOf given s = cond (flag given) (Given (secondary s)) Absent
 
 -- A slot is full if its flag is on.
 abbrev pub slotOf : ℕ → ℕ → ℕ → Slot
@@ -132,9 +156,18 @@ standingOf tag s v e = cond (eqb tag 1) (byteOf Command s v e) (cond (eqb tag 2)
 abbrev pub byteAt : List ℕ → ℕ → ℕ
 byteAt row k = getD row k 0
 
+abbrev pub roleOf : List ℕ → Role
+roleOf r = record {
+  name = record { address = address (byteAt r 0); secondary = secondaryOf (byteAt r 16) (byteAt r 17) };
+  talk = flag (byteAt r 1);
+  listen = flag (byteAt r 2);
+  poll = flag (byteAt r 3);
+  mark = markOf (byteAt r 18);
+}
+
 abbrev pub partyOf : List ℕ → Party
 partyOf r = record {
-  role = record { address = address (byteAt r 0); talk = flag (byteAt r 1); listen = flag (byteAt r 2); poll = flag (byteAt r 3) };
+  role = roleOf r;
   control = controlOf (byteAt r 4);
   source = sourceOf (byteAt r 5);
   acceptor = acceptorOf (byteAt r 6);

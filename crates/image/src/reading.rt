@@ -2,10 +2,13 @@
 ghost use mathlib.Core.Path.{_≡_};
 ghost use mathlib.Core.List.{map};
 ghost use lib.ListN.{take};
-ghost use Rattle.image.specs.Image.{flag, controlOf, sourceOf, acceptorOf, serviceOf, slotOf, byteOf, standingOf, partyOf, busWith, busOf};
+ghost use Rattle.image.specs.Image.{flag, markOf, secondaryOf, roleOf, controlOf, sourceOf, acceptorOf, serviceOf, slotOf, byteOf, standingOf, partyOf, busWith, busOf};
 use bus::Bus;
 use effect::Standing;
 use message::Address;
+use message::SecondaryAddress;
+use names::Name;
+use names::Secondary;
 use offer::Kind;
 use offer::Slot;
 use party::Acceptor;
@@ -13,6 +16,7 @@ use party::Control;
 use party::Party;
 use party::Place;
 use party::Source;
+use role::Mark;
 use role::Role;
 use service::Request;
 use service::Service;
@@ -21,6 +25,25 @@ fn flag(n: u8) -> bool
     ensures { λ r. ⌜ r ≡ flag n ⌝ }
 {
     n == 1
+}
+
+fn mark_of(n: u8) -> Mark
+    ensures { λ r. ⌜ r ≡ markOf n ⌝ }
+{
+    match n {
+        1 => Mark::TalkPrimary,
+        2 => Mark::ListenPrimary,
+        _ => Mark::Unmarked,
+    }
+}
+
+fn secondary_of(given: u8, number: u8) -> Secondary
+    ensures { λ r. ⌜ r ≡ secondaryOf given number ⌝ }
+{
+    match given {
+        1 => Secondary::Given(SecondaryAddress(number)),
+        _ => Secondary::Absent,
+    }
 }
 
 fn control_of(n: u8) -> Control
@@ -97,15 +120,26 @@ fn standing_of(tag: u8, sender: u8, value: u8, end: u8) -> Standing
     }
 }
 
-fn party_of(row: [u8; 16]) -> Party
-    ensures { λ r. ⌜ r ≡ partyOf row ⌝ }
+fn role_of(row: [u8; 24]) -> Role
+    ensures { λ r. ⌜ r ≡ roleOf row ⌝ }
 {
-    let role = Role {
+    let name = Name {
         address: Address(row[0]),
+        secondary: secondary_of(row[16], row[17]),
+    };
+    Role {
+        name,
         talk: flag(row[1]),
         listen: flag(row[2]),
         poll: flag(row[3]),
-    };
+        mark: mark_of(row[18]),
+    }
+}
+
+fn party_of(row: [u8; 24]) -> Party
+    ensures { λ r. ⌜ r ≡ partyOf row ⌝ }
+{
+    let role = role_of(row);
     let request = Request {
         live: row[13],
         saved: row[14],
@@ -122,7 +156,7 @@ fn party_of(row: [u8; 16]) -> Party
     }
 }
 
-fn bus_with(parties: [Party; 15], row: [u8; 16]) -> Bus
+fn bus_with(parties: [Party; 15], row: [u8; 24]) -> Bus
     ensures { λ r. ⌜ r ≡ busWith parties row ⌝ }
 {
     Bus {
@@ -133,7 +167,7 @@ fn bus_with(parties: [Party; 15], row: [u8; 16]) -> Bus
     }
 }
 
-fn parties_of(rows: [[u8; 16]; 16]) -> [Party; 15]
+fn parties_of(rows: [[u8; 24]; 16]) -> [Party; 15]
     ensures { λ r. ⌜ r ≡ map partyOf (take 15 rows) ⌝ }
 {
     let mut out = [Party::IDLE; 15];
@@ -147,7 +181,7 @@ fn parties_of(rows: [[u8; 16]; 16]) -> [Party; 15]
 }
 
 // Every content is read as some bus.
-pub fn bus_of(rows: [[u8; 16]; 16]) -> Bus
+pub fn bus_of(rows: [[u8; 24]; 16]) -> Bus
     ensures { λ r. ⌜ r ≡ busOf rows ⌝ }
 {
     bus_with(parties_of(rows), rows[15])

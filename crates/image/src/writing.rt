@@ -1,9 +1,10 @@
 // From a bus to its rows.
 ghost use mathlib.Core.Path.{_≡_};
-ghost use Rattle.image.specs.Image.{controlNumber, sourceNumber, acceptorNumber, serviceNumber, kindNumber, slotValue, slotEnd};
+ghost use Rattle.image.specs.Image.{markNumber, hasSecondary, secondaryNumber, controlNumber, sourceNumber, acceptorNumber, serviceNumber, kindNumber, slotValue, slotEnd};
 ghost use Rattle.image.specs.Image.{standingTag, standingSender, standingValue, rowOf, lastRow, rowsOf};
 use bus::Bus;
 use effect::Standing;
+use names::Secondary;
 use offer::Kind;
 use offer::Slot;
 use party::Acceptor;
@@ -11,7 +12,36 @@ use party::Control;
 use party::Party;
 use party::Source;
 use party::clearing::one;
+use role::Mark;
 use service::Service;
+
+fn mark_number(m: Mark) -> u8
+    ensures { λ r. ⌜ r ≡ markNumber m ⌝ }
+{
+    match m {
+        Mark::Unmarked => 0,
+        Mark::TalkPrimary => 1,
+        Mark::ListenPrimary => 2,
+    }
+}
+
+fn has_secondary(s: Secondary) -> bool
+    ensures { λ r. ⌜ r ≡ hasSecondary s ⌝ }
+{
+    match s {
+        Secondary::Absent => false,
+        Secondary::Given(_) => true,
+    }
+}
+
+fn secondary_number(s: Secondary) -> u8
+    ensures { λ r. ⌜ r ≡ secondaryNumber s ⌝ }
+{
+    match s {
+        Secondary::Absent => 0,
+        Secondary::Given(n) => n.0,
+    }
+}
 
 fn control_number(c: Control) -> u8
     ensures { λ r. ⌜ r ≡ controlNumber c ⌝ }
@@ -126,11 +156,14 @@ fn standing_value(s: Standing) -> u8
     }
 }
 
-fn row_of(p: Party) -> [u8; 16]
+fn row_of(p: Party) -> [u8; 24]
     ensures { λ r. ⌜ r ≡ rowOf p ⌝ }
 {
     let role = p.role;
-    let address = role.address;
+    let name = role.name;
+    let address = name.address;
+    let secondary = name.secondary;
+    let mark = role.mark;
     let control = p.control;
     let source = p.source;
     let acceptor = p.acceptor;
@@ -155,10 +188,18 @@ fn row_of(p: Party) -> [u8; 16]
         request.live,
         request.saved,
         service_number(service),
+        one(has_secondary(secondary)),
+        secondary_number(secondary),
+        mark_number(mark),
+        0,
+        0,
+        0,
+        0,
+        0,
     ]
 }
 
-fn last_row(b: Bus) -> [u8; 16]
+fn last_row(b: Bus) -> [u8; 24]
     ensures { λ r. ⌜ r ≡ lastRow b ⌝ }
 {
     let system = b.system;
@@ -180,11 +221,19 @@ fn last_row(b: Bus) -> [u8; 16]
         0,
         0,
         0,
+        0,
+        0,
+        0,
+        0,
+        0,
+        0,
+        0,
+        0,
     ]
 }
 
 // A row for each place, then the last row.
-pub fn rows_of(b: Bus) -> [[u8; 16]; 16]
+pub fn rows_of(b: Bus) -> [[u8; 24]; 16]
     ensures { λ r. ⌜ r ≡ rowsOf b ⌝ }
 {
     let parties = b.parties;

@@ -6,7 +6,7 @@ use mathlib.Core.List.{List, [], _∷_}
 use lib.ListN.{length}
 use Rattle.bus.specs.declared.Bus.{Bus}
 use Rattle.bus.specs.declared.Answer.{Answer}
-use Rattle.bus.specs.Record.{build}
+use Rattle.bus.specs.Record.{buildExtended}
 use Rattle.effect.specs.Words.{refusalNumber}
 use Rattle.runner.specs.declared.Given.{Given}
 use Rattle.image.specs.Image.{rowsOf, busOf}
@@ -51,4 +51,4 @@ pub hosted : Hosted
 hosted b z xs rs last h = go h b z refl
 
 pub hosted-from-build : HostedFromBuild
-hosted-from-build addresses system rows n l xs rs last h = go h (build addresses system .bus) (build-size addresses system) (l .rows)
+hosted-from-build names system rows n l xs rs last h = go h (buildExtended names system .bus) (build-size names system) (l .rows)

@@ -6,6 +6,7 @@ use mathlib.Core.Bool.{Bool, true, false, cond}
 use mathlib.Core.List.{List, [], _∷_}
 use lib.ListN.{length, length-set}
 use lib.Dec.{eqb}
+use Rattle.names.specs.declared.Name.{Name}
 use Rattle.party.specs.declared.Place.{Place}
 use Rattle.parties.specs.Places.{otherTalker}
 use Rattle.parties.proofs.Places.{length-each}
@@ -19,8 +20,8 @@ use Rattle.effect.specs.Calls.{placeOf}
 use Rattle.accepted.specs.Accepted.{effectOf}
 use Rattle.bus.specs.declared.Bus.{Bus}
 use Rattle.bus.specs.declared.Answer.{Answer}
-use Rattle.bus.specs.Record.{here, lines, built, noParties, refuse, build}
-use Rattle.addresses.specs.Addresses.{placed, badBuild}
+use Rattle.bus.specs.Record.{here, lines, built, noParties, refuse, buildExtended}
+use Rattle.addresses.specs.Addresses.{names, placed, badBuild}
 use Rattle.bus.specs.Following.{followed}
 use Rattle.bus.specs.Machine.{call, refusal, accepted, run}
 use Rattle.runner.specs.Waiting.{byPlace}
@@ -39,12 +40,12 @@ either : (x : Bool) (a c : Answer) → Full (a .bus) → Full (c .bus) → Full 
 either true a c h k = h
 either false a c h k = k
 
-placed-size : (n : ℕ) (xs : List ℕ) → length (placed n xs) ≡ n
+placed-size : (n : ℕ) (xs : List Name) → length (placed n xs) ≡ n
 placed-size zero xs = refl
 placed-size (suc n) [] = ap suc (placed-size n [])
 placed-size (suc n) (a ∷ xs) = ap suc (placed-size n xs)
 
-pub build-size : (xs : List ℕ) (s : Place) → Full (build xs s .bus)
+pub build-size : (xs : List Name) (s : Place) → Full (buildExtended xs s .bus)
 build-size xs s = either (badBuild xs s) (refuse ruling.BadBuild noParties) (refuse ruling.Accepted (built xs s)) (placed-size 15 []) (placed-size 15 xs)
 
 followed-size : (x : After) (atn : Bool) (b : Bus) (i : ℕ) (e : Effect) → Full b → Full (followed x atn b i e .bus)
@@ -70,7 +71,7 @@ turns-size b t h = run-size b (steps (turnsOf byPlace b t)) h
 
 obey-size : (b : Bus) (o : Order) → Full b → Full (obey b o .bus)
 unfolding obey buildFrom
-obey-size b (order.Build s n first) h = build-size (countUp n first) s
+obey-size b (order.Build s n first) h = build-size (names (countUp n first) []) s
 obey-size b (order.Call c) h = call-size b c h
 obey-size b order.Unknown h = h
 

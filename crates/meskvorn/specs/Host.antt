@@ -8,9 +8,10 @@ use lib.Dec.{eqb}
 use Rattle.effect.specs.declared.Refusal.the-variants as ruling
 use Rattle.bus.specs.declared.Bus.{Bus}
 use Rattle.bus.specs.declared.Answer.{Answer}
-use Rattle.bus.specs.Record.{refuse}
+use Rattle.bus.specs.Record.{here, refuse}
 use Rattle.image.specs.Image.{rowsOf}
-use Rattle.packing.specs.Packing.{packed}
+use Rattle.packing.specs.Packing.{packed, packedName}
+use Rattle.refusals.specs.Refusals.{isInside}
 use Rattle.orders.specs.Orders.{orderOf, obey}
 use Rattle.effect.specs.Words.{refusalNumber}
 use Rattle.runner.specs.declared.Given.{Given}
@@ -41,3 +42,8 @@ pub record Gave (g : Given) (after : List (List ℕ)) (counts : List ℕ) (n : �
   pub said : n ≡ refusalNumber (g .refusal)
   pub counted : counts ≡ g .counts
   pub rows : after ≡ rowsOf (g .bus)
+
+-- The name of the party at a place, as a number: its high byte, 255 or the secondary, tells the two sorts of party apart. The largest number of 16 bits
+-- stands for no party.
+abbrev pub nameNumber : Bus → ℕ → ℕ
+nameNumber b i = cond (isInside (b .count) i) (packedName (here b i .role .name)) 65535

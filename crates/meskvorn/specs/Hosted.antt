@@ -4,10 +4,11 @@ use Prim.Native.Nat.{ℕ}
 use mathlib.Core.Path.{_≡_}
 use mathlib.Core.List.{List, [], _∷_}
 use lib.ListN.{length}
+use Rattle.names.specs.declared.Name.{Name}
 use Rattle.party.specs.declared.Place.{Place}
 use Rattle.bus.specs.declared.Bus.{Bus}
 use Rattle.bus.specs.declared.Answer.{Answer}
-use Rattle.bus.specs.Record.{build}
+use Rattle.bus.specs.Record.{buildExtended}
 use Rattle.effect.specs.Words.{refusalNumber}
 use Rattle.runner.specs.declared.Given.{Given}
 use Rattle.runner.specs.Waiting.{byPlace}
@@ -67,7 +68,7 @@ pub record Same (b : Bus) (xs : List Asked) (rs : List Reply) (last : List (List
 abbrev pub Hosted : Type 0
 Hosted = (b : Bus) → length (b .parties) ≡ 15 → (xs : List Asked) (rs : List Reply) (last : List (List ℕ)) → Handed (rowsOf b) xs rs last → Same b xs rs last
 
--- So from every build on, also from a refused one, whatever the rows held before it.
+-- So from every build on, with secondaries or without, also from a refused one, whatever the rows held before it.
 abbrev pub HostedFromBuild : Type 0
-HostedFromBuild = (addresses : List ℕ) (system : Place) (rows : List (List ℕ)) (n : ℕ) → Answered (build addresses system) rows n
-    → (xs : List Asked) (rs : List Reply) (last : List (List ℕ)) → Handed rows xs rs last → Same (build addresses system .bus) xs rs last
+HostedFromBuild = (names : List Name) (system : Place) (rows : List (List ℕ)) (n : ℕ) → Answered (buildExtended names system) rows n
+    → (xs : List Asked) (rs : List Reply) (last : List (List ℕ)) → Handed rows xs rs last → Same (buildExtended names system .bus) xs rs last

@@ -3,6 +3,7 @@ ghost use mathlib.Core.Path.{_≡_};
 ghost use Rattle.meskvorn.specs.Host.{countOf, RanTo};
 use run::Ran;
 
+pub mod builds;
 pub mod calls;
 pub mod host;
 pub mod turns;

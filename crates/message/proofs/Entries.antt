@@ -6,7 +6,7 @@ use Prim.Native.Nat.{ℕ, zero, suc, _+_, _%_, _<_}
 use native.Mathlib.Nat.{add-zero, zero-add, add-suc, suc-add, le-of-suc-le-suc, not-suc-le-zero}
 use lib.ListN.{getD}
 use Rattle.message.specs.declared.Meaning.{Meaning}
-use Rattle.message.specs.Meaning.{address, named, sevenBits, meaning, codeOf, decode}
+use Rattle.message.specs.Meaning.{named, sevenBits, meaning, codeOf, decode}
 
 -- f at i, i + 1, .., n of them
 abbrev pub tabulate : {A : Type 0} → (ℕ → A) → ℕ → ℕ → List A
@@ -24,8 +24,8 @@ at {A = A} f d l n e k h = ap (λ (t : List A). getD t k d) e ∙ from f d n 0 k
 
 -- what the table says of a byte, decoded with the byte's low five bits, is the byte's meaning
 decoded : ℕ → Meaning
-decoded b = decode (codeOf (meaning b)) (address (b % 32))
+decoded b = decode (codeOf (meaning b)) (b % 32)
 
-pub meant : (b : ℕ) → b < 256 → decode (codeOf (meaning b)) (address (b % 32)) ≡ meaning b
+pub meant : (b : ℕ) → b < 256 → decode (codeOf (meaning b)) (b % 32) ≡ meaning b
 unfolding decoded decode meaning sevenBits named
 meant b h = sym (from decoded (meaning 0) 256 0 b h ∙ ap decoded (zero-add b)) ∙ at meaning (meaning 0) (tabulate decoded 0 256) 256 refl b h

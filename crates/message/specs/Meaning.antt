@@ -4,11 +4,15 @@ use Prim.Native.Nat.{ℕ, _-_, _%_}
 use mathlib.Core.Bool.{cond}
 use lib.Dec.{ltb, eqb}
 use Rattle.message.specs.declared.Address.{Address}
+use Rattle.message.specs.declared.SecondaryAddress.{SecondaryAddress}
 use Rattle.message.specs.declared.Meaning.{Meaning}
-use Rattle.message.specs.declared.Meaning.the-variants.{Other, Listen, Unlisten, Talk, Untalk, Sdc, Get, Tct, Dcl, Spe, Spd}
+use Rattle.message.specs.declared.Meaning.the-variants.{Other, Listen, Unlisten, Talk, Untalk, Sdc, Get, Tct, Dcl, Spe, Spd, Second, Neither}
 
 abbrev pub address : ℕ → Address
 address a = record { 0 = a }
+
+abbrev pub secondary : ℕ → SecondaryAddress
+secondary s = record { 0 = s }
 
 -- "04 SDC, 08 GET, 09 TCT, 14 DCL, 18 SPE, 19 SPD; all else no meaning"
 unfoldable pub named : ℕ → Meaning
@@ -20,14 +24,15 @@ named n =
     (cond (eqb n 0x18) Spe
     (cond (eqb n 0x19) Spd Other)))))
 
--- "20+a listen address, 3F UNL, 40+a talk address, 5F UNT (a in 0..1E)"
+-- "20+a listen address, 3F UNL, 40+a talk address, 5F UNT (a in 0..1E)". Document 02, Q-3: "60 to 7E secondaries, 7F neither".
 unfoldable pub sevenBits : ℕ → Meaning
 sevenBits n =
     cond (ltb n 0x20) (named n)
     (cond (ltb n 0x3f) (Listen (address (n - 0x20)))
     (cond (eqb n 0x3f) Unlisten
     (cond (ltb n 0x5f) (Talk (address (n - 0x40)))
-    (cond (eqb n 0x5f) Untalk Other))))
+    (cond (eqb n 0x5f) Untalk
+    (cond (ltb n 0x7f) (Second (secondary (n - 0x60))) Neither)))))
 
 -- "hexadecimal: entry b is entry b mod 80"
 unfoldable pub meaning : ℕ → Meaning
@@ -46,17 +51,21 @@ codeOf Tct = 7
 codeOf Dcl = 8
 codeOf Spe = 9
 codeOf Spd = 10
+codeOf (Second s) = 11
+codeOf Neither = 12
 
--- The meaning of a code, with the address that the byte carries.
-unfoldable pub decode : ℕ → Address → Meaning
-decode c a =
-    cond (eqb c 1) (Listen a)
+-- The meaning of a code, with the number that the byte carries.
+unfoldable pub decode : ℕ → ℕ → Meaning
+decode c n =
+    cond (eqb c 1) (Listen (address n))
     (cond (eqb c 2) Unlisten
-    (cond (eqb c 3) (Talk a)
+    (cond (eqb c 3) (Talk (address n))
     (cond (eqb c 4) Untalk
     (cond (eqb c 5) Sdc
     (cond (eqb c 6) Get
     (cond (eqb c 7) Tct
     (cond (eqb c 8) Dcl
     (cond (eqb c 9) Spe
-    (cond (eqb c 10) Spd Other)))))))))
+    (cond (eqb c 10) Spd
+    (cond (eqb c 11) (Second (secondary n))
+    (cond (eqb c 12) Neither Other)))))))))))

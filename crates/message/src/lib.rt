@@ -7,9 +7,12 @@ pub mod table;
 // A primary address. Document 01: "a party's place and its address are separate kinds of number".
 pub struct Address(pub u8);
 
+// A secondary address, which says which of the parties at one primary is meant.
+pub struct SecondaryAddress(pub u8);
+
 // What a command byte means to who hears it.
 pub enum Meaning {
-    // All else: no meaning.
+    // A primary command without a meaning of its own.
     Other,
     Listen(Address),
     Unlisten,
@@ -21,6 +24,9 @@ pub enum Meaning {
     Dcl,
     Spe,
     Spd,
+    Second(SecondaryAddress),
+    // 7F, which is neither a primary command nor a secondary.
+    Neither,
 }
 
 // The table's entry of a byte.
@@ -31,14 +37,14 @@ pub fn code_of(byte: u8) -> u8
     table::CODES[i]
 }
 
-// What a byte with this code means, if its low five bits are the address.
-fn decoded(code: u8, address: Address) -> Meaning
-    ensures { λ r. ⌜ r ≡ decode code address ⌝ }
+// What a byte with this code means, if its low five bits are the number of an address.
+fn decoded(code: u8, number: u8) -> Meaning
+    ensures { λ r. ⌜ r ≡ decode code number ⌝ }
 {
     match code {
-        1 => Meaning::Listen(address),
+        1 => Meaning::Listen(Address(number)),
         2 => Meaning::Unlisten,
-        3 => Meaning::Talk(address),
+        3 => Meaning::Talk(Address(number)),
         4 => Meaning::Untalk,
         5 => Meaning::Sdc,
         6 => Meaning::Get,
@@ -46,6 +52,8 @@ fn decoded(code: u8, address: Address) -> Meaning
         8 => Meaning::Dcl,
         9 => Meaning::Spe,
         10 => Meaning::Spd,
+        11 => Meaning::Second(SecondaryAddress(number)),
+        12 => Meaning::Neither,
         _ => Meaning::Other,
     }
 }
@@ -54,5 +62,5 @@ fn decoded(code: u8, address: Address) -> Meaning
 pub fn meaning_of(byte: u8) -> Meaning
     ensures { λ r. ⌜ r ≡ meaning byte ⌝ }
 {
-    decoded(code_of(byte), Address(byte % 32))
+    decoded(code_of(byte), byte % 32)
 }

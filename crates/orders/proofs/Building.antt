@@ -2,12 +2,13 @@
 -- Assumes nothing.
 use mathlib.Core.Path.{_≡_, refl, ap}
 use mathlib.Core.Bool.{Bool, true, false, _||_}
-use mathlib.Core.List.{List, _∷_}
+use mathlib.Core.List.{List, [], _∷_}
 use Prim.Native.Nat.{ℕ, zero, suc, _+_, _≤_, _<_}
 use native.Mathlib.Omega.{arith}
 use lib.ListN.{length, take}
 use borrow.Author.Tests.{lt-ltb}
 use Rattle.party.specs.declared.Place.{Place}
+use Rattle.addresses.proofs.Scans.{names-length}
 use Rattle.effect.specs.declared.Refusal.the-variants as ruling
 use Rattle.bus.specs.Record.{build, refuse, noParties}
 use Rattle.orders.specs.Orders.{countUp}
@@ -34,7 +35,7 @@ second true x y z = refl
 second false x y z = refl
 
 pub too-many : (n a : ℕ) (s : Place) → 15 < n → build (countUp n a) s ≡ refuse ruling.BadBuild noParties
-too-many n a s h = simp (length-up n a, lt-ltb 15 n h, second)
+too-many n a s h = simp (names-length (countUp n a) [], length-up n a, lt-ltb 15 n h, second)
 
 pub too-high : (n a : ℕ) (s : Place) → 30 < a → build (countUp n a) s ≡ refuse ruling.BadBuild noParties
 unfolding countUp

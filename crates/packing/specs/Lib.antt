@@ -1,2 +1,2 @@
--- An answer as one number.
+-- An answer and a name as one number each.
 pub mod Packing

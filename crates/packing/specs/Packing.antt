@@ -1,6 +1,9 @@
--- An answer as one number.
+-- An answer as one number, and a name as one number.
 -- Assumes nothing.
 use Prim.Native.Nat.{ℕ, _+_, _*_}
+use Rattle.names.specs.declared.Secondary.{Secondary}
+use Rattle.names.specs.declared.Secondary.the-variants.{Absent, Given}
+use Rattle.names.specs.declared.Name.{Name}
 use Rattle.party.specs.Parts.{one}
 use Rattle.event.specs.declared.Event.{Event}
 use Rattle.event.specs.declared.Event.the-variants as ev
@@ -31,3 +34,11 @@ bytes a b c d e f = a + 256 * (b + 256 * (c + 256 * (d + 256 * (e + 256 * f))))
 -- "An answer carries: refusal, event, byte, END, dropped (0 to 2), broken (0 or 1)."
 abbrev pub packed : Answer → ℕ
 packed a = bytes (refusalNumber (a .refusal)) (eventNumber (a .event)) (a .byte) (one (a .end)) (a .dropped) (a .broken)
+
+-- The primary is the low byte, the secondary the high one: 255 says, as in a build, that there is none.
+abbrev pub secondaryByte : Secondary → ℕ
+secondaryByte Absent = 255
+secondaryByte (Given s) = s .0
+
+abbrev pub packedName : Name → ℕ
+packedName n = n .address .0 + 256 * secondaryByte (n .secondary)

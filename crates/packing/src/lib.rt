@@ -1,8 +1,11 @@
-// An answer as a number, which every host language takes.
+// An answer and a name as a number each, which every host language takes.
 ghost use mathlib.Core.Path.{_≡_};
-ghost use Rattle.packing.specs.Packing.{eventNumber, bytes, packed};
+ghost use Prim.Native.Nat.{_+_, _*_};
+ghost use Rattle.packing.specs.Packing.{eventNumber, bytes, packed, secondaryByte, packedName};
 use bus::Answer;
 use event::Event;
+use names::Name;
+use names::Secondary;
 use party::clearing::one;
 use words::refusal_number;
 
@@ -54,4 +57,29 @@ pub fn packed(a: Answer) -> u64
         a.dropped,
         a.broken,
     )
+}
+
+fn secondary_byte(s: Secondary) -> u8
+    ensures { λ r. ⌜ r ≡ secondaryByte s ⌝ }
+{
+    match s {
+        Secondary::Absent => addresses::NO_SECONDARY,
+        Secondary::Given(n) => n.0,
+    }
+}
+
+// Two bytes as one number, the first the lower.
+fn pair(low: u8, high: u8) -> u16
+    ensures { λ r. ⌜ r ≡ low + 256 * high ⌝ }
+{
+    (low as u16) + 256 * (high as u16)
+}
+
+// A party's name.
+pub fn packed_name(n: Name) -> u16
+    ensures { λ r. ⌜ r ≡ packedName n ⌝ }
+{
+    let address = n.address;
+    let secondary = n.secondary;
+    pair(address.0, secondary_byte(secondary))
 }

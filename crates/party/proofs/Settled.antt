@@ -1,20 +1,25 @@
--- What settling keeps of one party.
+-- What attention and settling leave of one party.
 -- Assumes nothing.
 use mathlib.Core.Path.{_≡_, refl}
 use mathlib.Core.Bool.{Bool, true, false, not, cond, _&&_, _||_}
 use mathlib.Core.Logic.{_⊎_, inl, inr}
 use Prim.Native.Nat.{ℕ}
-use Rattle.party.specs.Types.{Address, Party, Source, Sids, Sgns, Sdys, Strs, Service, Nprs, Srqs, Aprs}
+use Rattle.party.specs.Types.{Name, Party, Source, Sids, Sgns, Sdys, Strs, Service, Nprs, Srqs, Aprs}
 use Rattle.party.specs.Parts.{newborn}
 use Rattle.party.specs.Driving.{isActive}
 use Rattle.party.specs.Sending.{isSource, isPolled}
-use Rattle.party.specs.Settling.{sourceSettled, settled}
+use Rattle.party.specs.Settling.{attended, sourceSettled, settled}
 use Rattle.service.specs.Service.{serviceSettled, rsv, liveSettled}
 use Rattle.role.proofs.Logic.{no}
+use Rattle.role.proofs.Roles.{marked}
 
-pub newborn-still : (atn : Bool) (a : Address) → settled atn (newborn a) ≡ newborn a
-newborn-still true a = refl
-newborn-still false a = refl
+pub newborn-still : (atn : Bool) (n : Name) → settled atn (newborn n) ≡ newborn n
+newborn-still true n = refl
+newborn-still false n = refl
+
+-- after attention nobody waits for a secondary
+pub attended-unmarked : (t : Bool) (p : Party) → marked (attended t p .role) ≡ false
+attended-unmarked t p = refl
 
 -- settling leaves in STRS just the sources that were there
 pub settled-strs : (t : Bool) (p : Party) → settled t p .source ≡ Strs → (p .source ≡ Strs) × (isSource t p ≡ true)

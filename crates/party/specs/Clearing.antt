@@ -7,13 +7,14 @@ use Rattle.party.specs.Parts.{heldBytes, withRole, withControl, withHeld
 use Rattle.role.specs.Roles.{unaddressed}
 use Rattle.party.specs.Driving.{isActive}
 
--- "Reset: flags off, control idle, held byte dropped, data-in emptied, poll register kept"
+-- "Reset: flags off, control idle, held byte dropped, data-in emptied, poll register kept". Document 02, Q-3: it clears the marks too, "and so do reset,
+-- interface clear".
 abbrev pub wiped : Party → Party
-wiped p = withRole (unaddressed (p .role .address)) (withControl Idle (withHeld Empty (withInput Empty p)))
+wiped p = withRole (unaddressed (p .role .name)) (withControl Idle (withHeld Empty (withInput Empty p)))
 
 -- "Interface clear: talk, listen and poll mode off everywhere, all control idle": a party that stops being active loses its held byte.
 abbrev pub cleared : Party → Party
-cleared p = withHeld (cond (isActive p) Empty (p .held)) (withRole (unaddressed (p .role .address)) (withControl Idle p))
+cleared p = withHeld (cond (isActive p) Empty (p .held)) (withRole (unaddressed (p .role .name)) (withControl Idle p))
 
 abbrev pub clearDrops : Party → ℕ
 clearDrops p = cond (isActive p) (heldBytes p) 0

@@ -2,14 +2,16 @@
 -- Assumes nothing.
 use Prim.Native.Nat.{ℕ}
 use mathlib.Core.Bool.{Bool, true, false}
+use Rattle.message.specs.Meaning.{address}
+use Rattle.names.specs.Names.{plain}
 use Rattle.role.specs.Roles.{unaddressed}
 use Rattle.offer.specs.Offer.{isFull}
-use Rattle.party.specs.Types.{Address, Role, Request, Party, Control, Source, Acceptor, Slot, Idle, Sids, Aids, Empty, Nprs}
+use Rattle.party.specs.Types.{Name, Role, Request, Party, Control, Source, Acceptor, Slot, Idle, Sids, Aids, Empty, Nprs}
 
 -- "All flags are off, control idle, SIDS, AIDS, nothing held, poll registers 0, NPRS."
-abbrev pub newborn : Address → Party
-newborn a = record {
-  role = unaddressed a;
+abbrev pub newborn : Name → Party
+newborn n = record {
+  role = unaddressed n;
   control = Idle;
   source = Sids;
   acceptor = Aids;
@@ -20,7 +22,7 @@ newborn a = record {
 
 -- The idle party: "its address is 0".
 abbrev pub idle : Party
-idle = newborn (record { 0 = 0 })
+idle = newborn (plain (address 0))
 
 -- How many of one thing: 1 where the test holds, else 0.
 abbrev pub one : Bool → ℕ

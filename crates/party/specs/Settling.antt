@@ -1,9 +1,10 @@
 -- Attention and settling, of one party (document 01, "Attention and settling").
 -- Assumes nothing.
 use mathlib.Core.Bool.{Bool, true, false, cond}
+use Rattle.role.specs.Roles.{withMark}
 use Rattle.service.specs.Service.{requestSettled}
-use Rattle.party.specs.Types.{Party, Control, Empty, Source, Sids, Sgns, Sdys, Strs, Acceptor, Aids, Anrs}
-use Rattle.party.specs.Parts.{withControl, withSource, withAcceptor, withHeld, withRequest}
+use Rattle.party.specs.Types.{Party, Control, Empty, Unmarked, Source, Sids, Sgns, Sdys, Strs, Acceptor, Aids, Anrs}
+use Rattle.party.specs.Parts.{withRole, withControl, withSource, withAcceptor, withHeld, withRequest}
 use Rattle.party.specs.Driving.{isActive}
 use Rattle.party.specs.Sending.{isSource, isPolled}
 
@@ -15,9 +16,9 @@ changeControl c p = withHeld Empty (withControl c p)
 abbrev pub attendedAcceptor : Bool → Bool → Bool → Acceptor
 attendedAcceptor atn active listen = cond atn (cond active Aids Anrs) (cond listen Anrs Aids)
 
--- "all sources to SIDS"
+-- "all sources to SIDS". Document 02, Q-3: "every change of which party is active" clears the marks.
 abbrev pub attended : Bool → Party → Party
-attended atn p = withSource Sids (withAcceptor (attendedAcceptor atn (isActive p) (p .role .listen)) p)
+attended atn p = withRole (withMark Unmarked (p .role)) (withSource Sids (withAcceptor (attendedAcceptor atn (isActive p) (p .role .listen)) p))
 
 -- "A non-source goes to SIDS ..; a source in SIDS to SGNS."
 abbrev pub sourceSettled : Bool → Source → Source

@@ -1,5 +1,4 @@
 -- The types of src/lib.rt and their cases, under one name.
-pub use Rattle.message.specs.declared.Address.{Address}
 pub use Rattle.party.specs.declared.Control.{Control}
 pub use Rattle.party.specs.declared.Control.the-variants.{Idle, Standby, Active}
 pub use Rattle.party.specs.declared.Source.{Source}
@@ -11,6 +10,8 @@ pub use Rattle.service.specs.declared.Service.the-variants.{Nprs, Srqs, Aprs}
 pub use Rattle.offer.specs.declared.Slot.{Slot}
 pub use Rattle.offer.specs.declared.Slot.the-variants.{Empty, Full}
 pub use Rattle.offer.specs.declared.Kind.{Kind}
+pub use Rattle.names.specs.declared.Name.{Name}
+pub use Rattle.role.specs.declared.Mark.the-variants.{Unmarked}
 pub use Rattle.role.specs.declared.Role.{Role}
 pub use Rattle.service.specs.declared.Request.{Request}
 pub use Rattle.party.specs.declared.Party.{Party}

@@ -37,10 +37,10 @@ impl Party {
         ensures { λ r. ⌜ r ≡ wiped self ⌝ }
     {
         let role = self.role;
-        let address = role.address;
+        let name = role.name;
         let p = self.with_input(Slot::Empty).with_held(Slot::Empty);
         p.with_control(Control::Idle)
-            .with_role(Role::unaddressed(address))
+            .with_role(Role::unaddressed(name))
     }
 
     // A party after an interface clear, before attention.
@@ -48,9 +48,9 @@ impl Party {
         ensures { λ r. ⌜ r ≡ cleared self ⌝ }
     {
         let role = self.role;
-        let address = role.address;
+        let name = role.name;
         let p = self.with_control(Control::Idle)
-            .with_role(Role::unaddressed(address));
+            .with_role(Role::unaddressed(name));
         if self.is_active() {
             p.with_held(Slot::Empty)
         } else {

@@ -2,7 +2,7 @@
 ghost use mathlib.Core.Path.{_≡_};
 ghost use Rattle.party.specs.Parts.{newborn};
 ghost use Rattle.role.specs.Roles.{unaddressed};
-use message::Address;
+use names::Name;
 use offer::Slot;
 use role::Role;
 use service::Request;
@@ -63,10 +63,10 @@ impl Party {
         request: Request::IDLE,
     };
 
-    // The party that a build puts at an address.
-    pub fn build(address: Address) -> Party
-        ensures { λ r. ⌜ r ≡ newborn address ⌝ }
+    // The party that a build gives this name.
+    pub fn build(name: Name) -> Party
+        ensures { λ r. ⌜ r ≡ newborn name ⌝ }
     {
-        Party::IDLE.with_role(Role::unaddressed(address))
+        Party::IDLE.with_role(Role::unaddressed(name))
     }
 }

@@ -4,6 +4,7 @@ ghost use Rattle.party.specs.Settling.{attendedAcceptor, attended, sourc
 use crate::Acceptor;
 use crate::Party;
 use crate::Source;
+use role::Mark;
 
 impl Acceptor {
     fn attended(atn: bool, active: bool, listen: bool) -> Acceptor
@@ -47,7 +48,8 @@ impl Party {
     {
         let role = self.role;
         let acceptor = Acceptor::attended(atn, self.is_active(), role.listen);
-        self.with_acceptor(acceptor).with_source(Source::Sids)
+        let p = self.with_acceptor(acceptor).with_source(Source::Sids);
+        p.with_role(role.with_mark(Mark::Unmarked))
     }
 
     // A party after settling, with ATN as the call left it.

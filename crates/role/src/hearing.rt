@@ -1,36 +1,48 @@
 // Hearing: what a command does to who hears it.
 ghost use mathlib.Core.Path.{_≡_};
-ghost use Rattle.role.specs.Hearing.{own, hear, hearEvent, passesControl};
+ghost use Rattle.role.specs.Hearing.{markAfter, addressed, hear, hearEvent, passesControl};
+use crate::Mark;
 use crate::Role;
+use crate::addressing::mark_of;
 use event::Event;
-use message::Address;
 use message::Meaning;
 
 impl Role {
-    fn owns(self, a: Address) -> bool
-        ensures { λ r. ⌜ r ≡ own a self ⌝ }
+    // The mark of who has heard a command.
+    fn mark_after(self, m: Meaning) -> Mark
+        ensures { λ r. ⌜ r ≡ markAfter m self ⌝ }
     {
-        let mine = self.address;
-        a.0 == mine.0
+        let name = self.name;
+        let secondary = name.secondary;
+        match m {
+            Meaning::Other => Mark::Unmarked,
+            Meaning::Listen(a) => mark_of(secondary, self.owns(a), Mark::ListenPrimary),
+            Meaning::Unlisten => Mark::Unmarked,
+            Meaning::Talk(a) => mark_of(secondary, self.owns(a), Mark::TalkPrimary),
+            Meaning::Untalk => Mark::Unmarked,
+            Meaning::Sdc => Mark::Unmarked,
+            Meaning::Get => Mark::Unmarked,
+            Meaning::Tct => Mark::Unmarked,
+            Meaning::Dcl => Mark::Unmarked,
+            Meaning::Spe => Mark::Unmarked,
+            Meaning::Spd => Mark::Unmarked,
+            Meaning::Second(_) => self.mark,
+            Meaning::Neither => self.mark,
+        }
     }
 
-    // The role of who has heard a command.
-    pub fn heard(self, m: Meaning) -> Role
-        ensures { λ r. ⌜ r ≡ hear m self ⌝ }
+    // The flags of who has heard a command, with the mark as it was.
+    fn addressed(self, m: Meaning) -> Role
+        ensures { λ r. ⌜ r ≡ addressed m self ⌝ }
     {
+        let name = self.name;
+        let secondary = name.secondary;
+        let mark = self.mark;
         match m {
             Meaning::Other => self,
-            Meaning::Listen(a) => if self.owns(a) {
-                self.with_flags(false, true)
-            } else {
-                self
-            },
+            Meaning::Listen(a) => self.listen_addressed(secondary, self.owns(a)),
             Meaning::Unlisten => self.with_flags(self.talk, false),
-            Meaning::Talk(a) => if self.owns(a) {
-                self.with_flags(true, false)
-            } else {
-                self.with_flags(false, self.listen)
-            },
+            Meaning::Talk(a) => self.talk_addressed(secondary, self.owns(a)),
             Meaning::Untalk => self.with_flags(false, self.listen),
             Meaning::Sdc => self,
             Meaning::Get => self,
@@ -38,7 +50,16 @@ impl Role {
             Meaning::Dcl => self,
             Meaning::Spe => self.with_poll_mode(true),
             Meaning::Spd => self.with_poll_mode(false),
+            Meaning::Second(s) => self.seconded(mark, self.owns_secondary(s)),
+            Meaning::Neither => self,
         }
+    }
+
+    // The role of who has heard a command.
+    pub fn heard(self, m: Meaning) -> Role
+        ensures { λ r. ⌜ r ≡ hear m self ⌝ }
+    {
+        self.addressed(m).with_mark(self.mark_after(m))
     }
 }
 
@@ -58,6 +79,8 @@ pub fn hear_event(m: Meaning, listen: bool) -> Event
         Meaning::Dcl => Event::Clear,
         Meaning::Spe => Event::Heard,
         Meaning::Spd => Event::Heard,
+        Meaning::Second(_) => Event::Heard,
+        Meaning::Neither => Event::Heard,
     }
 }
 
@@ -77,5 +100,7 @@ pub fn passes_control(m: Meaning) -> bool
         Meaning::Dcl => false,
         Meaning::Spe => false,
         Meaning::Spd => false,
+        Meaning::Second(_) => false,
+        Meaning::Neither => false,
     }
 }

@@ -14,7 +14,7 @@ use Rattle.party.specs.Driving.{isActive}
 use Rattle.party.specs.Sending.{isSource}
 use Rattle.role.proofs.Logic.{no, test, cond-elim}
 use Rattle.parties.specs.Places.{within}
-use Rattle.bus.specs.Record.{here, refuse, build}
+use Rattle.bus.specs.Record.{here, refuse, buildExtended}
 use Rattle.bus.specs.Machine as m
 use Rattle.bus.specs.Delivery.{Moment, history, moment, isPut, isEnd}
 use Rattle.bus.proofs.Invariant.{Inv, atnOf, quiet}
@@ -202,7 +202,7 @@ bound-from b I tie O p w v e F t l = subst (λ (xs : List ℕ). EndsWithin b (st
     split = rw (ne-eqb n 0 (λ h. let z = F .there in omega arith), fits) (turns-order tie n O (let z = F .there in omega arith) t) ∙ ap (λ (x : ℕ). rota x q) whole ∙ rota-rounds 7 q (t - 7 * n)
 
 pub bound : Bound
-bound addresses system ok cs tie = bound-from (m.run (build addresses system .bus) cs) (reached addresses system ok cs) tie
+bound names system ok cs tie = bound-from (m.run (buildExtended names system .bus) cs) (reached names system ok cs) tie
 
 pub bound-by-place : BoundByPlace
-bound-by-place addresses system ok cs = bound addresses system ok cs byPlace (place-orders (m.run (build addresses system .bus) cs .count))
+bound-by-place names system ok cs = bound names system ok cs byPlace (place-orders (m.run (buildExtended names system .bus) cs .count))

@@ -3,7 +3,7 @@
 use mathlib.Core.Path.{_≡_, refl, sym, ap, _∙_}
 use mathlib.Core.List.{List, [], _∷_, _++_}
 use Prim.Native.Nat.{ℕ}
-use Rattle.bus.specs.Record.{build}
+use Rattle.bus.specs.Record.{buildExtended}
 use Rattle.bus.specs.Machine as m
 use Rattle.bus.proofs.Theorem.{delivery}
 use Rattle.runner.specs.Types.{Bus, Call}
@@ -27,4 +27,4 @@ stands-for-steps tie b (run t ∷ xs) =
     stands-for-steps tie c xs ∙ sym (run-append b (steps (turnsOf (tie b) b t)) (expanded tie c xs))
 
 pub delivery-with-runs : DeliveryWithRuns
-delivery-with-runs tie addresses system ok xs = delivery addresses system ok (expanded tie (build addresses system .bus) xs)
+delivery-with-runs tie names system ok xs = delivery names system ok (expanded tie (buildExtended names system .bus) xs)

@@ -7,10 +7,10 @@ use mathlib.Core.Path.{_≡_}
 use mathlib.Core.Bool.{Bool, true, false}
 use mathlib.Core.List.{List}
 use Rattle.party.specs.Sending.{isPolled}
-use Rattle.bus.specs.Record.{here, lines, build}
+use Rattle.bus.specs.Record.{here, lines, buildExtended}
 use Rattle.bus.specs.Machine as m
 use Rattle.bus.specs.Delivery.{moment, answerAt, PutAt, EndsAt, StandsAt}
-use Rattle.runner.specs.Types.{Place, Sgns, Empty, Full, Bus, Call}
+use Rattle.runner.specs.Types.{Place, Name, Sgns, Empty, Full, Bus, Call}
 use Rattle.runner.specs.Types.ruling
 use Rattle.runner.specs.Types.ev
 use Rattle.runner.specs.Waiting.{TieOrder, byPlace}
@@ -52,9 +52,9 @@ EndsSoon tie b = (p w v : ℕ) (e : Bool) → Offered b p w v e → (t : ℕ) �
 
 -- From every bus that an accepted build and any calls lead to, whatever order the ties go by.
 abbrev pub Bound : Type 0
-Bound = (addresses : List ℕ) (system : Place) → build addresses system .refusal ≡ ruling.Accepted → (cs : List Call) (tie : TieOrder)
-    → Orders tie (m.run (build addresses system .bus) cs .count) → EndsSoon tie (m.run (build addresses system .bus) cs)
+Bound = (names : List Name) (system : Place) → buildExtended names system .refusal ≡ ruling.Accepted → (cs : List Call) (tie : TieOrder)
+    → Orders tie (m.run (buildExtended names system .bus) cs .count) → EndsSoon tie (m.run (buildExtended names system .bus) cs)
 
 -- "ties to the lowest party number"
 abbrev pub BoundByPlace : Type 0
-BoundByPlace = (addresses : List ℕ) (system : Place) → build addresses system .refusal ≡ ruling.Accepted → (cs : List Call) → EndsSoon byPlace (m.run (build addresses system .bus) cs)
+BoundByPlace = (names : List Name) (system : Place) → buildExtended names system .refusal ≡ ruling.Accepted → (cs : List Call) → EndsSoon byPlace (m.run (buildExtended names system .bus) cs)

@@ -3,10 +3,10 @@
 use Prim.Native.Nat.{ℕ}
 use mathlib.Core.Path.{_≡_}
 use mathlib.Core.List.{List, [], _∷_, _++_}
-use Rattle.bus.specs.Record.{build}
+use Rattle.bus.specs.Record.{buildExtended}
 use Rattle.bus.specs.Machine as m
 use Rattle.bus.specs.Delivery.{Delivered}
-use Rattle.runner.specs.Types.{Place, Bus, Call}
+use Rattle.runner.specs.Types.{Place, Name, Bus, Call}
 use Rattle.runner.specs.Types.ruling
 use Rattle.runner.specs.Waiting.{TieOrder}
 use Rattle.steps.specs.Steps.{steps}
@@ -37,5 +37,5 @@ StandsForSteps = (tie : Bus → TieOrder) (b : Bus) (xs : List Act) → acted ti
 
 -- Demand 3 for every list of calls and runs from a bus that an accepted build gave.
 abbrev pub DeliveryWithRuns : Type 0
-DeliveryWithRuns = (tie : Bus → TieOrder) (addresses : List ℕ) (system : Place) → build addresses system .refusal ≡ ruling.Accepted
-    → (xs : List Act) → Delivered (build addresses system .bus) (expanded tie (build addresses system .bus) xs)
+DeliveryWithRuns = (tie : Bus → TieOrder) (names : List Name) (system : Place) → buildExtended names system .refusal ≡ ruling.Accepted
+    → (xs : List Act) → Delivered (buildExtended names system .bus) (expanded tie (buildExtended names system .bus) xs)

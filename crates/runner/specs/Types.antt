@@ -1,4 +1,5 @@
 -- The types that this crate speaks of, and their cases, under one name.
+pub use Rattle.names.specs.declared.Name.{Name}
 pub use Rattle.party.specs.declared.Place.{Place}
 pub use Rattle.party.specs.declared.Source.{Source}
 pub use Rattle.party.specs.declared.Source.the-variants.{Sids, Sgns, Sdys, Strs}

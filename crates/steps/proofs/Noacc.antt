@@ -19,7 +19,7 @@ use Rattle.parties.proofs.Places.{some-none}
 use Rattle.effect.specs.Effects.{say}
 use Rattle.source_step.specs.SourceStep.{put, noacc, ready, ended, sourceStep}
 use Rattle.acceptor_step.specs.AcceptorStep.{take, acceptorStep}
-use Rattle.bus.specs.Record.{here, lines, build}
+use Rattle.bus.specs.Record.{here, lines, buildExtended}
 use Rattle.bus.specs.Settling.{answered}
 use Rattle.bus.specs.Following.{follow}
 use Rattle.bus.specs.Machine as m
@@ -158,4 +158,4 @@ keeps : (b : Bus) → Inv b → Keeps b
 keeps b I = record { says = says b I; again = again b I; only = only b I }
 
 pub keeps-byte : KeepsByte
-keeps-byte addresses system ok cs = keeps (m.run (build addresses system .bus) cs) (reached addresses system ok cs)
+keeps-byte names system ok cs = keeps (m.run (buildExtended names system .bus) cs) (reached names system ok cs)

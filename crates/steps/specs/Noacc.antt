@@ -8,12 +8,12 @@ use Rattle.offer.specs.Offer.{kindOf, endOf}
 use Rattle.party.specs.Driving.{isActive}
 use Rattle.party.specs.Sending.{isSource, isPolled, offer}
 use Rattle.effect.specs.Effects.{say}
-use Rattle.bus.specs.Record.{here, lines, build}
+use Rattle.bus.specs.Record.{here, lines, buildExtended}
 use Rattle.bus.specs.Settling.{answered}
 use Rattle.bus.specs.Machine as m
 use Rattle.bus.specs.declared.Bus.{Bus}
 use Rattle.bus.specs.declared.Answer.{Answer}
-use Rattle.bus.specs.Types.{Place, Sdys, Full, Call}
+use Rattle.bus.specs.Types.{Place, Name, Sdys, Full, Call}
 use Rattle.bus.specs.Types.ev
 use Rattle.bus.specs.Types.ruling
 use Rattle.steps.specs.Steps.{stepOf, steps}
@@ -41,4 +41,4 @@ pub record Keeps (b : Bus) : Type 0 where
 
 -- On every bus that an accepted build and any calls lead to.
 abbrev pub KeepsByte : Type 0
-KeepsByte = (addresses : List ℕ) (system : Place) → build addresses system .refusal ≡ ruling.Accepted → (cs : List Call) → Keeps (m.run (build addresses system .bus) cs)
+KeepsByte = (names : List Name) (system : Place) → buildExtended names system .refusal ≡ ruling.Accepted → (cs : List Call) → Keeps (m.run (buildExtended names system .bus) cs)

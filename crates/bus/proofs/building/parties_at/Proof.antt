@@ -1,25 +1,28 @@
--- After k turns the first k addresses have their parties.
+-- After k turns the first k names have their parties.
 use Prim.Native.Nat.{_≤_, _-_}
-use mathlib.Core.Path.{_≡_, refl}
+use mathlib.Core.Path.{_≡_, refl, ap, _∙_}
 use native.Mathlib.Omega.{arith}
 use lib.ListN.{length, take}
 use borrow.Author.Needs.{needs}
-use Rattle.addresses.specs.Addresses.{placed}
-use Rattle.addresses.proofs.Scans.{place-turn, place-done}
+use Rattle.message.specs.Meaning.{address}
+use Rattle.names.specs.Names.{plain}
+use Rattle.party.specs.Parts.{newborn}
+use Rattle.addresses.specs.Addresses.{names, placed}
+use Rattle.addresses.proofs.Scans.{names-length, place-turn, place-done}
 use Rattle.bus.proofs.building.parties_at.Statement.{statement}
 use Rattle.bus.proofs.building.parties_at.Tie as tie
 
 abbrev Inv-loop : tie.InvT-loop
-Inv-loop addresses out₀ k₀ out k = (k ≤ length addresses) × (out ≡ placed 15 (take k addresses))
+Inv-loop addresses secondaries out₀ k₀ out k = (k ≤ length addresses) × (out ≡ placed 15 (take k (names addresses secondaries)))
 
 abbrev μ-loop : tie.MeasureT-loop
-μ-loop addresses out₀ k₀ out k = length addresses - k
+μ-loop addresses secondaries out₀ k₀ out k = length addresses - k
 
 loop-holds : tie.Need-loop-holds Inv-loop μ-loop
 loop-holds c = (search needs, refl)
 
-shared-slice-read-t18 : tie.Need-shared-slice-read-t18 Inv-loop μ-loop
-shared-slice-read-t18 c = omega arith
+name-at-requires : tie.Need-name-at-requires Inv-loop μ-loop
+name-at-requires c κs = search needs
 
 build-requires : tie.Need-build-requires Inv-loop μ-loop
 build-requires c κs = search needs
@@ -39,14 +42,16 @@ loop-less c = search needs
 loop-again : tie.Need-loop-again Inv-loop μ-loop
 loop-again c =
     let b = c .before .before .before in
-    let l = b .before .before .args .addresses .now in
-    (search needs, place-turn l (b .loop .k) (omega arith) (omega arith) (b .loop .inv .1) (c .build .ensures))
+    let a = b .before .before .before .args in
+    let z = names-length (a .addresses .now) (a .secondaries .now) in
+    (search needs, place-turn (names (a .addresses .now) (a .secondaries .now)) (b .loop .k) (plain (address 0)) (omega arith) (omega arith) (b .loop .inv .1) (c .build .ensures ∙ ap newborn (c .before .name-at .ensures)))
 
 returns : tie.Need-returns Inv-loop μ-loop
 returns c =
     let b = c .before in
-    let l = b .before .before .args .addresses .now in
-    place-done l (b .loop .k) (b .loop .inv .0) (omega arith) (b .loop .inv .1)
+    let a = b .before .before .before .args in
+    let z = names-length (a .addresses .now) (a .secondaries .now) in
+    place-done (names (a .addresses .now) (a .secondaries .now)) (b .loop .k) (omega arith) (b .loop .inv .1)
 
 pub parties-at-spec : {M : Type 1} → statement M
 parties-at-spec =
@@ -55,7 +60,7 @@ parties-at-spec =
     Inv-loop
     μ-loop
     loop-holds
-    shared-slice-read-t18
+    name-at-requires
     build-requires
     mul-out
     array-set-from-out

@@ -56,11 +56,24 @@ one-requires-7 c κs = search needs
 service-number-requires : tie.Need-service-number-requires
 service-number-requires c κs = search needs
 
+has-secondary-requires : tie.Need-has-secondary-requires
+has-secondary-requires c κs = search needs
+
+one-requires-8 : tie.Need-one-requires-8
+one-requires-8 c κs = search needs
+
+secondary-number-requires : tie.Need-secondary-number-requires
+secondary-number-requires c κs = search needs
+
+mark-number-requires : tie.Need-mark-number-requires
+mark-number-requires c κs = search needs
+
 returns : tie.Need-returns
 returns c =
-    let h = c .before .before .before .before .before .before in
+    let s = c .before .before .before .before in
+    let h = s .before .before .before .before .before .before in
     let k = h .before .before .before .before .before in
-    row-by-parts (k .before .before .before .before .before .before .before .before .before .args .p)
+    row-by-parts (k .before .before .before .before .before .before .before .before .before .before .args .p)
     (k .before .before .before .before .before .one .ensures .0)
     (k .before .before .before .before .one2 .ensures .0)
     (k .before .before .before .one3 .ensures .0)
@@ -70,10 +83,13 @@ returns c =
     (h .before .before .before .one4 .ensures .0 ∙ ap one (h .before .before .before .before .is-full .ensures))
     (h .before .before .slot-value .ensures)
     (h .one5 .ensures .0 ∙ ap one (h .before .slot-end .ensures))
-    (c .before .before .before .before .one6 .ensures .0 ∙ ap one (c .before .before .before .before .before .is-full2 .ensures))
-    (c .before .before .before .slot-value2 .ensures)
-    (c .before .one7 .ensures .0 ∙ ap one (c .before .before .slot-end2 .ensures))
-    (c .service-number .ensures)
+    (s .before .before .before .before .one6 .ensures .0 ∙ ap one (s .before .before .before .before .before .is-full2 .ensures))
+    (s .before .before .before .slot-value2 .ensures)
+    (s .before .one7 .ensures .0 ∙ ap one (s .before .before .slot-end2 .ensures))
+    (s .service-number .ensures)
+    (c .before .before .one8 .ensures .0 ∙ ap one (c .before .before .before .has-secondary .ensures))
+    (c .before .secondary-number .ensures)
+    (c .mark-number .ensures)
 
 pub row-of-spec : {M : Type 1} → statement M
 row-of-spec =
@@ -96,4 +112,8 @@ row-of-spec =
     slot-end-requires-2
     one-requires-7
     service-number-requires
+    has-secondary-requires
+    one-requires-8
+    secondary-number-requires
+    mark-number-requires
     returns)

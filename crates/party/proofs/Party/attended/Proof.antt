@@ -14,13 +14,21 @@ with-acceptor-requires c κs = search needs
 with-source-requires : tie.Need-with-source-requires
 with-source-requires c κs = search needs
 
+with-mark-requires : tie.Need-with-mark-requires
+with-mark-requires c κs = search needs
+
+with-role-requires : tie.Need-with-role-requires
+with-role-requires c κs = search needs
+
 returns : tie.Need-returns
 returns c =
     simp (
-      c .with-source .ensures,
-      c .before .with-acceptor .ensures,
-      c .before .before .attended .ensures,
-      c .before .before .before .is-active .ensures,
+      c .with-role .ensures,
+      c .before .with-mark .ensures,
+      c .before .before .with-source .ensures,
+      c .before .before .before .with-acceptor .ensures,
+      c .before .before .before .before .attended .ensures,
+      c .before .before .before .before .before .is-active .ensures,
     )
 
 pub attended-spec : {M : Type 1} → statement M
@@ -31,4 +39,6 @@ attended-spec =
     attended-requires
     with-acceptor-requires
     with-source-requires
+    with-mark-requires
+    with-role-requires
     returns)

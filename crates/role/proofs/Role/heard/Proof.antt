@@ -1,157 +1,23 @@
-use mathlib.Core.Path.{sym, _∙_}
 use borrow.Author.Needs.{needs}
 use Rattle.role.proofs.Role.heard.Statement.{statement}
 use Rattle.role.proofs.Role.heard.Tie as tie
 
-enum-told : tie.Need-enum-told
-enum-told c = search needs
+addressed-requires : tie.Need-addressed-requires
+addressed-requires c κs = search needs
 
-enum-known-m : tie.Need-enum-known-m
-enum-known-m c = search needs
+mark-after-requires : tie.Need-mark-after-requires
+mark-after-requires c κs = search needs
 
-owns-requires : tie.Need-owns-requires
-owns-requires c κs = search needs
-
-with-flags-requires : tie.Need-with-flags-requires
-with-flags-requires c κs = search needs
-
-enum-told-2 : tie.Need-enum-told-2
-enum-told-2 c = search needs
-
-with-flags-requires-2 : tie.Need-with-flags-requires-2
-with-flags-requires-2 c κs = search needs
-
-enum-known-m-2 : tie.Need-enum-known-m-2
-enum-known-m-2 c = search needs
-
-owns-requires-2 : tie.Need-owns-requires-2
-owns-requires-2 c κs = search needs
-
-with-flags-requires-3 : tie.Need-with-flags-requires-3
-with-flags-requires-3 c κs = search needs
-
-with-flags-requires-4 : tie.Need-with-flags-requires-4
-with-flags-requires-4 c κs = search needs
-
-enum-told-3 : tie.Need-enum-told-3
-enum-told-3 c = search needs
-
-with-flags-requires-5 : tie.Need-with-flags-requires-5
-with-flags-requires-5 c κs = search needs
-
-enum-told-4 : tie.Need-enum-told-4
-enum-told-4 c = search needs
-
-enum-told-5 : tie.Need-enum-told-5
-enum-told-5 c = search needs
-
-enum-told-6 : tie.Need-enum-told-6
-enum-told-6 c = search needs
-
-enum-told-7 : tie.Need-enum-told-7
-enum-told-7 c = search needs
-
-enum-told-8 : tie.Need-enum-told-8
-enum-told-8 c = search needs
-
-with-poll-mode-requires : tie.Need-with-poll-mode-requires
-with-poll-mode-requires c κs = search needs
-
-enum-told-9 : tie.Need-enum-told-9
-enum-told-9 c = search needs
-
-with-poll-mode-requires-2 : tie.Need-with-poll-mode-requires-2
-with-poll-mode-requires-2 c κs = search needs
+with-mark-requires : tie.Need-with-mark-requires
+with-mark-requires c κs = search needs
 
 returns : tie.Need-returns
-returns c = search needs
-
-returns-2 : tie.Need-returns-2
-returns-2 c = simp (c .with-flags .ensures, sym (c .before .before .owns .ensures) ∙ c .before .if1 .taken, c .before .before .before .before .m .given .1)
-
-returns-3 : tie.Need-returns-3
-returns-3 c = simp (sym (c .before .owns .ensures) ∙ c .if1 .left, c .before .before .before .m .given .1)
-
-returns-4 : tie.Need-returns-4
-returns-4 c =
+returns c =
     simp (
-      c .with-flags2 .ensures,
-      c .before .enum-told2 .given .1,
-    )
-
-returns-5 : tie.Need-returns-5
-returns-5 c = simp (c .with-flags3 .ensures, sym (c .before .before .owns2 .ensures) ∙ c .before .if2 .taken, c .before .before .before .before .m2 .given .1)
-
-returns-6 : tie.Need-returns-6
-returns-6 c = simp (c .with-flags4 .ensures, sym (c .before .before .owns2 .ensures) ∙ c .before .if2 .left, c .before .before .before .before .m2 .given .1)
-
-returns-7 : tie.Need-returns-7
-returns-7 c =
-    simp (
-      c .with-flags5 .ensures,
-      c .before .enum-told3 .given .1,
-    )
-
-returns-8 : tie.Need-returns-8
-returns-8 c = search needs
-
-returns-9 : tie.Need-returns-9
-returns-9 c = search needs
-
-returns-10 : tie.Need-returns-10
-returns-10 c = search needs
-
-returns-11 : tie.Need-returns-11
-returns-11 c = search needs
-
-returns-12 : tie.Need-returns-12
-returns-12 c =
-    simp (
-      c .with-poll-mode .ensures,
-      c .before .enum-told8 .given .1,
-    )
-
-returns-13 : tie.Need-returns-13
-returns-13 c =
-    simp (
-      c .with-poll-mode2 .ensures,
-      c .before .enum-told9 .given .1,
+      c .with-mark .ensures,
+      c .before .mark-after .ensures,
+      c .before .before .addressed .ensures,
     )
 
 pub heard-spec : {M : Type 1} → statement M
-heard-spec =
-    tie.close
-    (tie.spec
-    enum-told
-    enum-known-m
-    owns-requires
-    with-flags-requires
-    enum-told-2
-    with-flags-requires-2
-    enum-known-m-2
-    owns-requires-2
-    with-flags-requires-3
-    with-flags-requires-4
-    enum-told-3
-    with-flags-requires-5
-    enum-told-4
-    enum-told-5
-    enum-told-6
-    enum-told-7
-    enum-told-8
-    with-poll-mode-requires
-    enum-told-9
-    with-poll-mode-requires-2
-    returns
-    returns-2
-    returns-3
-    returns-4
-    returns-5
-    returns-6
-    returns-7
-    returns-8
-    returns-9
-    returns-10
-    returns-11
-    returns-12
-    returns-13)
+heard-spec = tie.close (tie.spec addressed-requires mark-after-requires with-mark-requires returns)

@@ -1,0 +1,54 @@
+-- A bad build is refused; any other has at most fifteen addresses, and they are counted in a byte.
+use mathlib.Core.Path.{sym, _∙_}
+use Prim.Native.Nat.{_≤_}
+use native.Mathlib.Nat.{mod-eq-of-lt}
+use native.Mathlib.Omega.{arith}
+use lib.ListN.{length}
+use borrow.Author.Needs.{needs}
+use Rattle.addresses.specs.Addresses.{names}
+use Rattle.addresses.proofs.Scans.{names-length}
+use Rattle.bus.proofs.Built.{fits}
+use Rattle.bus.proofs.Bus.build_extended.Statement.{statement}
+use Rattle.bus.proofs.Bus.build_extended.Tie as tie
+
+is-bad-requires : tie.Need-is-bad-requires
+is-bad-requires c κs = search needs
+
+refuse-requires : tie.Need-refuse-requires
+refuse-requires c κs = search needs
+
+returns : tie.Need-returns
+returns c = simp (c .refuse .ensures, sym (c .before .before .is-bad .ensures) ∙ c .before .if1 .taken)
+
+parties-at-requires : tie.Need-parties-at-requires
+parties-at-requires c κs =
+    let a = c .before .before .before .before .args in
+    let few = fits (names (a .addresses .now) (a .secondaries .now)) (a .system) (sym (c .before .is-bad .ensures) ∙ c .if1 .left) in
+    let z = names-length (a .addresses .now) (a .secondaries .now) in
+    omega arith
+
+cast-t27 : tie.Need-cast-t27
+cast-t27 c = search needs
+
+refuse-requires-2 : tie.Need-refuse-requires-2
+refuse-requires-2 c κs = search needs
+
+returns-2 : tie.Need-returns-2
+returns-2 c =
+    let p = c .before in
+    let a = p .before .before .before .before .before .args in
+    let good = sym (p .before .before .is-bad .ensures) ∙ p .before .if1 .left in
+    let few : length (a .addresses .now) ≤ 15 = rw (sym (names-length (a .addresses .now) (a .secondaries .now))) (fits (names (a .addresses .now) (a .secondaries .now)) (a .system) good) in
+    simp (c .refuse2 .ensures, p .parties-at .ensures, mod-eq-of-lt {n = length (a .addresses .now)} {m = 256} (omega arith) ∙ sym (names-length (a .addresses .now) (a .secondaries .now)), good)
+
+pub build-extended-spec : {M : Type 1} → statement M
+build-extended-spec =
+    tie.close
+    (tie.spec
+    is-bad-requires
+    refuse-requires
+    returns
+    parties-at-requires
+    cast-t27
+    refuse-requires-2
+    returns-2)

@@ -1,0 +1,3 @@
+-- Laws of names, and small steps of argument.
+pub mod Logic
+pub mod Clashes

@@ -1,0 +1,2 @@
+-- The names of parties.
+pub mod Names
