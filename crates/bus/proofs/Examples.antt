@@ -1,9 +1,14 @@
--- P1 to P12 hold: the machine computes them.
+-- P1 to P12 hold, and so do the examples of secondary addresses: the machine computes them.
 -- Assumes nothing.
 use mathlib.Core.Path.{refl}
 use Rattle.message.specs.Meaning.{meaning, sevenBits, named}
 use Rattle.bus.specs.Examples.{Examples}
+use Rattle.bus.specs.Secondaries.{SecondaryExamples}
 
 pub examples : Examples
 unfolding meaning sevenBits named
 examples = refl
+
+pub secondary-examples : SecondaryExamples
+unfolding meaning sevenBits named
+secondary-examples = refl

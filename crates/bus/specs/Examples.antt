@@ -9,7 +9,7 @@ use Rattle.bus.specs.Types.{Call}
 use Rattle.bus.specs.Types.ruling
 use Rattle.bus.specs.Types.ev
 use Rattle.bus.specs.Types.call-of
-use Rattle.bus.specs.Rows.{Report, Run, outcome, expected, ok, moved, says, loses, refused, step, write, read, listenOnly, talkOnly, clear, standby, run, sends}
+use Rattle.bus.specs.Rows.{Report, Run, outcome, expected, ok, moved, says, loses, refused, step, write, read, listenOnly, talkOnly, clear, standby, run, notBuilt, sends}
 
 -- "P1 the script above": its records 2 to 8, and 9 to 12.
 abbrev taking : List (Call × Report) → List (Call × Report)
@@ -140,15 +140,6 @@ P7 =
     ∷ (step 1, says ev.Took 0x41 true)
     ∷ [])
     ∷ []
-
--- A build that is refused leaves the bus of no parties: no line is driven, and no party is there.
-abbrev notBuilt : List ℕ → Run
-notBuilt addresses = record {
-  addresses = addresses;
-  system = 0;
-  built = refused ruling.BadBuild;
-  calls = (call-of.Lines, says ev.Lines 0 false) ∷ (step 0, refused ruling.NoParty) ∷ [];
-}
 
 -- "P8 address 30 built, 31 refused"
 abbrev pub P8 : List Run

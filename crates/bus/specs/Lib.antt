@@ -6,4 +6,5 @@ pub mod Following
 pub mod Machine
 pub mod Rows
 pub mod Examples
+pub mod Secondaries
 pub mod Delivery

@@ -4,11 +4,12 @@ use Prim.Native.Nat.{ℕ}
 use mathlib.Core.Bool.{Bool, false}
 use mathlib.Core.List.{List, [], _∷_, map}
 use Rattle.parties.specs.Places.{place}
-use Rattle.bus.specs.Types.{Event, Bus, Answer, Call, Refusal}
+use Rattle.addresses.specs.Addresses.{names}
+use Rattle.bus.specs.Types.{Name, Event, Bus, Answer, Call, Refusal}
 use Rattle.bus.specs.Types.ruling
 use Rattle.bus.specs.Types.ev
 use Rattle.bus.specs.Types.call-of
-use Rattle.bus.specs.Record.{build}
+use Rattle.bus.specs.Record.{buildExtended}
 use Rattle.bus.specs.Machine.{call}
 
 -- An answer without its bus.
@@ -24,7 +25,7 @@ abbrev pub reported : Answer → Report
 reported a = record { refusal = a .refusal; event = a .event; byte = a .byte; end = a .end; dropped = a .dropped; broken = a .broken }
 
 pub record Run : Type 0 where
-  pub addresses : List ℕ
+  pub names : List Name
   pub system : ℕ
   pub built : Report
   pub calls : List (Call × Report)
@@ -34,7 +35,7 @@ answers b [] = []
 answers b (c ∷ cs) = reported (call b (c .0)) ∷ answers (call b (c .0) .bus) cs
 
 abbrev pub outcome : Run → List Report
-outcome r = reported (build (r .addresses) (place (r .system))) ∷ answers (build (r .addresses) (place (r .system)) .bus) (r .calls)
+outcome r = reported (buildExtended (r .names) (place (r .system))) ∷ answers (buildExtended (r .names) (place (r .system)) .bus) (r .calls)
 
 abbrev pub expected : Run → List Report
 expected r = r .built ∷ map (λ c. c .1) (r .calls)
@@ -80,9 +81,24 @@ clear p = call-of.InterfaceClear (place p)
 abbrev pub standby : ℕ → Call
 standby p = call-of.GoToStandby (place p)
 
--- A run from an accepted build, with party 0 the system party.
+-- A run from an accepted build, with party 0 the system party: of parties by name, and of parties without secondaries.
+abbrev pub runOf : List Name → List (Call × Report) → Run
+runOf names calls = record { names = names; system = 0; built = ok; calls = calls }
+
 abbrev pub run : List ℕ → List (Call × Report) → Run
-run addresses calls = record { addresses = addresses; system = 0; built = ok; calls = calls }
+run addresses calls = runOf (names addresses []) calls
+
+-- A build that is refused leaves the bus of no parties: no line is driven, and no party is there.
+abbrev pub notBuiltOf : List Name → Run
+notBuiltOf names = record {
+  names = names;
+  system = 0;
+  built = refused ruling.BadBuild;
+  calls = (call-of.Lines, says ev.Lines 0 false) ∷ (step 0, refused ruling.NoParty) ∷ [];
+}
+
+abbrev pub notBuilt : List ℕ → Run
+notBuilt addresses = notBuiltOf (names addresses [])
 
 -- Party 0 sends command v to party 1, whose acceptor is in ANRS.
 abbrev pub sends : ℕ → List (Call × Report) → List (Call × Report)
