@@ -1,0 +1,142 @@
+-- No call changes a name, on any bus: hearing, reset, interface clear, attention and settling all leave it.
+-- Assumes nothing.
+use mathlib.Core.Path.{_≡_, refl, sym, ap, _∙_}
+use mathlib.Core.Bool.{Bool, not, _||_}
+use mathlib.Core.List.{List, [], _∷_}
+use Prim.Native.Nat.{ℕ, zero, suc}
+use lib.ListN.{getD, set}
+use Rattle.message.specs.Meaning.{address, meaning}
+use Rattle.names.specs.Names.{plain}
+use Rattle.role.proofs.Logic.{no, cond-elim}
+use Rattle.role.proofs.Roles.{hear-name}
+use Rattle.offer.specs.Offer.{isFull, kindOf}
+use Rattle.party.specs.Driving.{isActive}
+use Rattle.party.specs.Sending.{isSource, isPolled, offer}
+use Rattle.party.specs.Settling.{attended, settled, changeControl}
+use Rattle.party.specs.Clearing.{cleared}
+use Rattle.parties.specs.Places.{at, some, each, otherTalker}
+use Rattle.effect.specs.Words.{isAccepted}
+use Rattle.effect.specs.Calls.{placeOf}
+use Rattle.effect.specs.Stands.{ofCommand}
+use Rattle.source_step.specs.SourceStep.{ready, ended, sourceStep}
+use Rattle.acceptor_step.specs.AcceptorStep.{take, acceptorStep}
+use Rattle.accepted.specs.Accepted.{effectOf}
+use Rattle.host_calls.specs.HostCalls.{read}
+use Rattle.addresses.specs.Addresses.{badBuild}
+use Rattle.bus.specs.Record.{here, lines, buildExtended}
+use Rattle.bus.specs.Following.{followed}
+use Rattle.bus.specs.Machine as m
+use Rattle.bus.specs.declared.Bus.{Bus}
+use Rattle.bus.specs.declared.Answer.{Answer}
+use Rattle.bus.specs.Types.{Place, Name, Party, Idle, Active, Source, Sids, Sgns, Sdys, Strs, Acceptor, Aids, Anrs, Acrs, Acds, Awns, Slot, Empty, Full, Kind, Found, Lines, Standing, Nothing, Byte, Call, After, Effect}
+use Rattle.bus.specs.Types.ruling
+use Rattle.bus.specs.Types.after
+use Rattle.bus.specs.Types.call-of
+use Rattle.bus.proofs.Built.{placed-at, fits}
+use Rattle.steps.specs.Named.{nameAt, Named}
+
+abbrev nameOf : Party → Name
+nameOf p = p .role .name
+
+-- what a store and a change of every party leave, wherever they leave it of one party
+set-same : (ps : List Party) (i : ℕ) (q : Party) → nameOf q ≡ nameOf (at ps i) → (j : ℕ) → nameOf (at (set ps i q) j) ≡ nameOf (at ps j)
+set-same [] i q e j = refl
+set-same (p ∷ ps) zero q e zero = e
+set-same (p ∷ ps) zero q e (suc j) = refl
+set-same (p ∷ ps) (suc i) q e zero = refl
+set-same (p ∷ ps) (suc i) q e (suc j) = set-same ps i q e j
+
+each-same : (n : ℕ) (f : Party → Party) (ps : List Party) → ((p : Party) → nameOf (f p) ≡ nameOf p) → (j : ℕ) → nameOf (at (each n f ps) j) ≡ nameOf (at ps j)
+each-same zero f ps h j = refl
+each-same (suc n) f [] h j = refl
+each-same (suc n) f (p ∷ ps) h zero = h p
+each-same (suc n) f (p ∷ ps) h (suc j) = each-same n f ps h j
+
+-- An accepted call leaves its own party's name.
+module _ (p : Party) where
+  abbrev Same : Effect → Type 0
+  Same e = nameOf (e .party) ≡ nameOf p
+
+  ready-same : (o : Slot) (k : Kind) (l : Lines) (st : Standing) (i : Place) → Same (ready o k l st i p)
+  ready-same Empty k l st i = refl
+  ready-same (Full v e) k l st i = cond-elim Same (l .nrfd) (λ _. refl) (λ _. cond-elim Same (l .ndac) (λ _. refl) (λ _. refl))
+
+  ended-same : (f : Found) (st : Standing) → Same (ended f st p)
+  ended-same f Nothing = refl
+  ended-same f (Byte s k v e) = cond-elim (λ (x : Party). nameOf x ≡ nameOf p) (ofCommand k) (λ _. hear-name (meaning v) (p .role)) (λ _. refl)
+
+  source-same : (s : Source) (o : Slot) (k : Kind) (l : Lines) (f : Found) (st : Standing) (i : Place) → Same (sourceStep s o k l f st i p)
+  source-same Sids o k l f st i = refl
+  source-same Sgns o k l f st i = cond-elim Same (isFull o) (λ _. refl) (λ _. refl)
+  source-same Sdys o k l f st i = ready-same o k l st i
+  source-same Strs o k l f st i = cond-elim Same (l .ndac) (λ _. refl) (λ _. ended-same f st)
+
+  take-same : (t : Bool) (st : Standing) → Same (take t st p)
+  take-same t Nothing = refl
+  take-same t (Byte s k v e) = cond-elim Same t (λ _. hear-name (meaning v) (p .role)) (λ _. refl)
+
+  acceptor-same : (a : Acceptor) (l : Lines) (st : Standing) → Same (acceptorStep a l st p)
+  acceptor-same Aids l st = refl
+  acceptor-same Anrs l st = cond-elim Same (l .atn || not (isFull (p .input))) (λ _. refl) (λ _. refl)
+  acceptor-same Acrs l st = cond-elim Same (l .dav) (λ _. take-same (l .atn) st) (λ _. refl)
+  acceptor-same Acds l st = refl
+  acceptor-same Awns l st = cond-elim Same (l .dav) (λ _. refl) (λ _. refl)
+
+  read-same : (s : Slot) (st : Standing) → Same (read s st p)
+  read-same Empty st = refl
+  read-same (Full v e) st = refl
+
+  effect-same : (l : Lines) (f : Found) (st : Standing) (c : Call) → Same (effectOf l f st p c)
+  effect-same l f st (call-of.Step i) = cond-elim Same (isSource (l .atn) p)
+      (λ _. source-same (p .source) (offer (isPolled (l .atn) p) p) (kindOf (isActive p) (isPolled (l .atn) p)) l f st i)
+      (λ _. acceptor-same (p .acceptor) l st)
+  effect-same l f st (call-of.Write i v e) = refl
+  effect-same l f st (call-of.Read i) = read-same (p .input) st
+  effect-same l f st (call-of.PollRegister i v) = refl
+  effect-same l f st (call-of.ListenOnly i on) = refl
+  effect-same l f st (call-of.TalkOnly i on) = refl
+  effect-same l f st (call-of.TakeControl i) = refl
+  effect-same l f st (call-of.GoToStandby i) = refl
+  effect-same l f st (call-of.InterfaceClear i) = refl
+  effect-same l f st (call-of.Reset i) = cond-elim Same (isActive p) (λ _. refl) (λ _. refl)
+  effect-same l f st (call-of.Drop i) = refl
+  effect-same l f st call-of.Lines = refl
+
+-- What follows leaves every name.
+module _ (b : Bus) (i : ℕ) (e : Effect) (same : nameOf (e .party) ≡ nameOf (here b i)) where
+  settled-same : (t : Bool) (ps : List Party) (j : ℕ) → nameOf (at (each (b .count) (settled t) ps) j) ≡ nameOf (at ps j)
+  settled-same t ps = each-same (b .count) (settled t) ps (λ p. refl)
+
+  attended-same : (ps : List Party) (j : ℕ) → let t = some (b .count) isActive ps in nameOf (at (each (b .count) (settled t) (each (b .count) (attended t) ps)) j) ≡ nameOf (at ps j)
+  attended-same ps j = let t = some (b .count) isActive ps in settled-same t (each (b .count) (attended t) ps) j ∙ each-same (b .count) (attended t) ps (λ p. refl) j
+
+  followed-same : (x : After) (t : Bool) (j : ℕ) → nameAt (followed x t b i e .bus) j ≡ nameAt b j
+  followed-same after.Settle t j = settled-same t (set (b .parties) i (e .party)) j ∙ set-same (b .parties) i (e .party) same j
+  followed-same (after.Pass k) t j =
+      let left = set (b .parties) i (changeControl Idle (e .party)) in
+      let kept = set-same (b .parties) i (changeControl Idle (e .party)) same in
+      attended-same (set left (k .0) (changeControl Active (here b (k .0)))) j ∙ set-same left (k .0) (changeControl Active (here b (k .0))) (sym (kept (k .0))) j ∙ kept j
+  followed-same after.Attend t j = attended-same (set (b .parties) i (e .party)) j ∙ set-same (b .parties) i (e .party) same j
+  followed-same after.Clear t j =
+      let all = each (b .count) cleared (b .parties) in
+      let kept = each-same (b .count) cleared (b .parties) (λ p. refl) in
+      attended-same (set all i (e .party)) j ∙ set-same all i (e .party) (same ∙ sym (kept i)) j ∙ kept j
+
+call-names : (b : Bus) (c : Call) (j : ℕ) → nameAt (m.call b c .bus) j ≡ nameAt b j
+call-names b c j =
+    let l = lines b in
+    let i = placeOf c .0 in
+    let e = effectOf l (otherTalker (b .count) i (b .parties)) (b .standing) (here b i) c in
+    cond-elim (λ (a : Answer). nameAt (a .bus) j ≡ nameAt b j) (isAccepted (m.refusal l b c))
+    (λ _. followed-same b i e (effect-same (here b i) l (otherTalker (b .count) i (b .parties)) (b .standing) c) (e .after) (l .atn) j)
+    (λ _. refl)
+
+run-names : (b : Bus) (cs : List Call) (j : ℕ) → nameAt (m.run b cs) j ≡ nameAt b j
+run-names b [] j = refl
+run-names b (c ∷ cs) j = run-names (m.call b c .bus) cs j ∙ call-names b c j
+
+pub named : Named
+named names system ok cs p h = run-names (buildExtended names system .bus) cs p ∙ cond-elim (λ (a : Answer). a .refusal ≡ ruling.Accepted → nameAt (a .bus) p ≡ getD names p (plain (address 0))) (badBuild names system)
+    (λ _ r. no (cc))
+    (λ e _. ap nameOf (placed-at 15 names p h (fits names system e)))
+    ok
