@@ -1,7 +1,7 @@
 /* The GPIB bus of document 01 for C and C++ programs. Link libmeskvorn.a, which `rt staticlib meskvorn` writes to target/staticlib.
  *
- * meskvorn_call, meskvorn_build, meskvorn_turns and meskvorn_run are the proved functions, for pointers that are valid for their lengths and do not
- * overlap. The inline functions below them take the answer apart and take NULL as well; they are tested. */
+ * meskvorn_call, meskvorn_build, meskvorn_build_extended, meskvorn_name, meskvorn_turns and meskvorn_run are the proved functions, for pointers that
+ * are valid for their lengths and do not overlap. The inline functions below them take the answer apart and take NULL as well; they are tested. */
 #ifndef MESKVORN_H
 #define MESKVORN_H
 
@@ -12,9 +12,12 @@
 extern "C" {
 #endif
 
+/* The bytes in a row of a bus, of which a party has one. */
+enum { MESKVORN_ROW = 24 };
+
 /* A bus, in memory of the program's own, which may be copied and moved. Zeros are the bus of no parties; any content is read as some bus. */
 typedef struct meskvorn_bus {
-    uint8_t rows[16][16];
+    uint8_t rows[16][MESKVORN_ROW];
 } meskvorn_bus;
 
 /* Document 01's table of refusals. */
@@ -79,6 +82,12 @@ enum {
 /* The most parties that a bus has. */
 enum { MESKVORN_MOST_PARTIES = 15 };
 
+/* Stands where a party has no secondary address. */
+enum { MESKVORN_NO_SECONDARY = 255 };
+
+/* What meskvorn_name gives where there is no such party. */
+#define MESKVORN_NO_NAME ((uint16_t)65535)
+
 /* What meskvorn_run gives where the text had no room. */
 #define MESKVORN_NO_ROOM ((size_t)-1)
 
@@ -92,15 +101,31 @@ typedef struct meskvorn_answer {
     uint8_t broken;
 } meskvorn_answer;
 
-/* The proved functions. No pointer may be NULL. The first two take the rows of a bus and give the answer as a number: from the low byte up refusal,
+/* What a build named a party: present is 0 where there is no such party, and 1 otherwise. A party without a secondary address has
+ * MESKVORN_NO_SECONDARY. */
+typedef struct meskvorn_party_name {
+    uint8_t present;
+    uint8_t address;
+    uint8_t secondary;
+} meskvorn_party_name;
+
+/* The proved functions. No pointer may be NULL. The first three take the rows of a bus and give the answer as a number: from the low byte up refusal,
  * event, byte, END, dropped, broken. An operation that is none of the twelve is refused with 3. Whatever the rows held, a build leaves the bus that it
  * asks for, or the bus of no parties where it is refused. */
-uint64_t meskvorn_call(uint8_t (*rows)[16], uint8_t operation, uint8_t party, uint8_t value, uint8_t extra);
-uint64_t meskvorn_build(uint8_t (*rows)[16], const uint8_t *addresses, size_t count, uint8_t system);
+uint64_t meskvorn_call(uint8_t (*rows)[MESKVORN_ROW], uint8_t operation, uint8_t party, uint8_t value, uint8_t extra);
+uint64_t meskvorn_build(uint8_t (*rows)[MESKVORN_ROW], const uint8_t *addresses, size_t count, uint8_t system);
+
+/* A build in which the party with number i has the address addresses[i] and the secondary address secondaries[i]. It has none if that is
+ * MESKVORN_NO_SECONDARY or if fewer secondaries are given; those past the last address are ignored. */
+uint64_t meskvorn_build_extended(uint8_t (*rows)[MESKVORN_ROW], const uint8_t *addresses, size_t count, const uint8_t *secondaries, size_t given,
+                                 uint8_t system);
+
+/* What a build named the party: the low byte is its address, the high byte its secondary address or MESKVORN_NO_SECONDARY. */
+uint16_t meskvorn_name(const uint8_t (*rows)[MESKVORN_ROW], uint8_t party);
 
 /* Gives so many turns on the bus, each to the party that has waited longest for one since the call began, of equals to the lowest. Writes how many
  * turns each of the fifteen places had, and gives the refusal: 0, or 1 on the bus of no parties, where all counts are 0. */
-uint8_t meskvorn_turns(uint8_t (*rows)[16], uint16_t turns, uint16_t *counts);
+uint8_t meskvorn_turns(uint8_t (*rows)[MESKVORN_ROW], uint16_t turns, uint16_t *counts);
 
 /* Runs a script and writes its text at the start of out, if out has 34 bytes for each record and part of one. Gives the number of bytes written. */
 size_t meskvorn_run(const uint8_t *script, size_t length, uint8_t *out, size_t room);
@@ -135,6 +160,31 @@ static inline meskvorn_answer meskvorn_bus_build(meskvorn_bus *bus, const uint8_
         return meskvorn_answer_of(MESKVORN_REFUSAL_RECORD);
     }
     return meskvorn_answer_of(meskvorn_build(bus->rows, addresses == NULL ? &none : addresses, count, system));
+}
+
+/* The party with number i gets addresses[i] and secondaries[i], or no secondary address if that is MESKVORN_NO_SECONDARY. NULL for the secondaries
+ * gives none to anybody. */
+static inline meskvorn_answer meskvorn_bus_build_extended(meskvorn_bus *bus, const uint8_t *addresses, const uint8_t *secondaries, size_t count,
+                                                          uint8_t system)
+{
+    static const uint8_t none = 0;
+    size_t given = secondaries == NULL ? 0 : count;
+    if (bus == NULL || (addresses == NULL && count != 0)) {
+        return meskvorn_answer_of(MESKVORN_REFUSAL_RECORD);
+    }
+    return meskvorn_answer_of(meskvorn_build_extended(bus->rows, addresses == NULL ? &none : addresses, count,
+                                                      secondaries == NULL ? &none : secondaries, given, system));
+}
+
+/* What a build named the party; on a NULL bus there is none. */
+static inline meskvorn_party_name meskvorn_bus_name(const meskvorn_bus *bus, uint8_t party)
+{
+    uint16_t packed = bus == NULL ? MESKVORN_NO_NAME : meskvorn_name(bus->rows, party);
+    meskvorn_party_name name;
+    name.present = packed != MESKVORN_NO_NAME;
+    name.address = (uint8_t)(packed & 255);
+    name.secondary = (uint8_t)(packed >> 8);
+    return name;
 }
 
 /* An operation by its number. */

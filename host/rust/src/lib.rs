@@ -1,13 +1,29 @@
 //! The GPIB bus of document 01 for Rust programs. The calls run in the proved library, which `rt staticlib meskvorn` writes.
 
 mod answer;
+mod name;
 
 pub use answer::{Answer, Event, Refusal, Turns, MOST_PARTIES};
+pub use name::Name;
+
+const ROW: usize = 24;
+
+/// What is kept of one party.
+type Row = [u8; ROW];
 
 extern "C" {
-    fn meskvorn_call(rows: *mut [u8; 16], operation: u8, party: u8, value: u8, extra: u8) -> u64;
-    fn meskvorn_build(rows: *mut [u8; 16], addresses: *const u8, count: usize, system: u8) -> u64;
-    fn meskvorn_turns(rows: *mut [u8; 16], turns: u16, counts: *mut u16) -> u8;
+    fn meskvorn_call(rows: *mut Row, operation: u8, party: u8, value: u8, extra: u8) -> u64;
+    fn meskvorn_build(rows: *mut Row, addresses: *const u8, count: usize, system: u8) -> u64;
+    fn meskvorn_build_extended(
+        rows: *mut Row,
+        addresses: *const u8,
+        count: usize,
+        secondaries: *const u8,
+        given: usize,
+        system: u8,
+    ) -> u64;
+    fn meskvorn_name(rows: *const Row, party: u8) -> u16;
+    fn meskvorn_turns(rows: *mut Row, turns: u16, counts: *mut u16) -> u8;
     fn meskvorn_run(script: *const u8, length: usize, out: *mut u8, room: usize) -> usize;
 }
 
@@ -32,23 +48,32 @@ pub enum Operation {
 /// A bus. Parties are numbered from 0. Equal buses answer alike, whatever is called.
 #[derive(Clone, PartialEq, Eq, Debug)]
 pub struct Bus {
-    rows: [[u8; 16]; 16],
+    rows: [Row; 16],
 }
 
 impl Default for Bus {
     /// The bus of no parties.
     fn default() -> Bus {
-        Bus::build(&[], 0).0
+        Bus::NO_PARTIES
     }
 }
 
 impl Bus {
+    const NO_PARTIES: Bus = Bus {
+        rows: [[0; ROW]; 16],
+    };
+
     /// Party i gets `addresses[i]`; `system` is the system party. A refused build gives the bus of no parties.
     pub fn build(addresses: &[u8], system: u8) -> (Bus, Answer) {
-        let mut bus = Bus {
-            rows: [[0; 16]; 16],
-        };
+        let mut bus = Bus::NO_PARTIES;
         let answer = bus.rebuild(addresses, system);
+        (bus, answer)
+    }
+
+    /// Party i gets `names[i]`, so that it may have a secondary address.
+    pub fn build_extended(names: &[Name], system: u8) -> (Bus, Answer) {
+        let mut bus = Bus::NO_PARTIES;
+        let answer = bus.rebuild_extended(names, system);
         (bus, answer)
     }
 
@@ -64,6 +89,30 @@ impl Bus {
             )
         };
         Answer::of(packed)
+    }
+
+    /// The same over a bus that is there.
+    pub fn rebuild_extended(&mut self, names: &[Name], system: u8) -> Answer {
+        let addresses: Vec<u8> = names.iter().map(|name| name.primary).collect();
+        let secondaries: Vec<u8> = names.iter().map(Name::secondary_byte).collect();
+        // The rows are this bus's own, and both lists are lent for the call, with the lengths that they have.
+        let packed = unsafe {
+            meskvorn_build_extended(
+                self.rows.as_mut_ptr(),
+                addresses.as_ptr(),
+                addresses.len(),
+                secondaries.as_ptr(),
+                secondaries.len(),
+                system,
+            )
+        };
+        Answer::of(packed)
+    }
+
+    /// What a build named the party; None if there is no such party.
+    pub fn name(&self, party: u8) -> Option<Name> {
+        // The rows are this bus's own, and are only read.
+        Name::of(unsafe { meskvorn_name(self.rows.as_ptr(), party) })
     }
 
     /// An operation by its number, with any arguments. A number that is no [`Operation`] is refused.
