@@ -8,6 +8,7 @@ pub const TURNS_A_PARTY: u16 = 7;
 #[derive(Clone, Copy, Debug)]
 pub struct Start {
     parties: usize,
+    secondaries: bool,
     talker: u8,
     held: Data,
 }
@@ -28,6 +29,7 @@ impl Start {
             && parties.iter().all(|party| party.data_in.is_none());
         holds.then_some(Start {
             parties: bus.count,
+            secondaries: bus.has_secondaries(),
             talker: place as u8,
             held,
         })
@@ -53,14 +55,20 @@ impl Start {
 /// How often the bound was tried, and where it came closest.
 #[derive(Clone, Copy, Default, Debug)]
 pub struct Tried {
-    pub starts: u64,
+    /// On racks without secondaries, and with some.
+    pub starts: [u64; 2],
     /// Turns needed, and parties.
     pub closest: (usize, usize),
 }
 
 impl Tried {
+    pub const WORDS: [&'static str; 2] = [
+        "starts of the bound",
+        "starts of the bound with secondaries",
+    ];
+
     pub fn enter(&mut self, start: &Start, needed: usize) {
-        self.starts += 1;
+        self.starts[usize::from(start.secondaries)] += 1;
         let (turns, parties) = self.closest;
         if needed * parties.max(1) > turns * start.parties {
             self.closest = (needed, start.parties);
@@ -70,9 +78,10 @@ impl Tried {
     pub fn words(&self) -> String {
         let (turns, parties) = self.closest;
         let share = turns as f64 / parties.max(1) as f64;
+        let [plain, extended] = self.starts;
         format!(
-            "bound tried at {} starts; at most {share:.2} turns a party, {turns} at {parties} parties",
-            self.starts
+            "bound tried at {plain} starts, and at {extended} with secondaries; \
+            at most {share:.2} turns a party, {turns} at {parties} parties"
         )
     }
 }

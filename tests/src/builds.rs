@@ -1,25 +1,39 @@
-//! Builds from address lists in any order, calls by number, and runs on such buses: no record can ask
-//! for these.
+//! Builds from lists in any order, without secondaries and with some, calls by number, and runs on
+//! such buses: no record can ask for these.
 
+use crate::codes::{self, LISTEN_ADDRESS};
 use crate::list;
-use crate::model::{Answer, Bus, MOST_PARTIES};
+use crate::model::{Answer, Bus, Name, MOST_PARTIES};
 use crate::plan::likely_turns;
+use crate::racks;
 use crate::random::Random;
 use crate::script::{self, Call, Record, BUILD, CLEAR, LINES, STEP, TALK, WRITE};
-use crate::subject::Subject;
+use crate::subject::{self, Subject};
 use crate::words;
 
 const LISTS: usize = 20_000;
 const CALLS_AFTER: usize = 30;
-const LISTEN_ADDRESS: u8 = 0x20;
+
+/// Rounds of turns within which a command ends.
+const ROUNDS_A_COMMAND: usize = 5;
 
 /// What was compared.
 #[derive(Default, Debug)]
 pub struct Compared {
-    pub accepted: u64,
-    pub refused: u64,
+    /// Builds accepted and refused, without secondaries and with some.
+    pub plain: [u64; 2],
+    pub extended: [u64; 2],
     pub calls: u64,
     pub runs: u64,
+}
+
+impl Compared {
+    pub fn print(&self) {
+        let ([plain, refused], runs) = (self.plain, self.runs);
+        println!("address lists: {plain} accepted, {refused} refused; {runs} runs");
+        let [extended, refused] = self.extended;
+        println!("with secondaries: {extended} accepted, {refused} refused");
+    }
 }
 
 type Done = Result<(), String>;
@@ -28,7 +42,7 @@ type Done = Result<(), String>;
 struct Pair<'a> {
     subject: &'a mut dyn Subject,
     bus: Bus,
-    built: (Vec<u8>, u8),
+    built: (Vec<Name>, u8),
     calls: Vec<Record>,
     compared: Compared,
 }
@@ -43,22 +57,41 @@ impl Pair<'_> {
     }
 
     fn differ(&self, model: String, subject: String) -> Done {
-        let (addresses, system) = &self.built;
-        let mut story = format!("build {addresses:?}, system party {system}");
+        let (names, system) = &self.built;
+        let names: Vec<String> = names.iter().map(|name| words::name(*name)).collect();
+        let mut story = format!("build {}, system party {system}", names.join(" "));
         for call in &self.calls {
             story += &format!("\n{}", words::piece(call));
         }
         Err(format!("{story}: model {model}, subject {subject}"))
     }
 
-    fn build(&mut self, addresses: Vec<u8>, system: u8) -> Done {
-        let model = self.bus.build(&addresses, system);
-        let subject = self.subject.build(&addresses, system);
-        self.built = (addresses, system);
+    fn build(&mut self, addresses: &[u8], system: u8) -> Done {
+        let model = self.bus.build(addresses, system);
+        let subject = self.subject.build(addresses, system);
+        self.built = (addresses.iter().copied().map(Name::plain).collect(), system);
+        self.compared.plain[usize::from(!model.accepted())] += 1;
+        self.agree_on_build(model, subject)
+    }
+
+    fn build_extended(&mut self, names: &[Name], system: u8) -> Done {
+        let model = self.bus.build_extended(names, system);
+        let subject = self.subject.build_extended(names, system);
+        self.built = (names.to_vec(), system);
+        self.compared.extended[usize::from(!model.accepted())] += 1;
+        self.agree_on_build(model, subject)
+    }
+
+    fn agree_on_build(&mut self, model: Answer, subject: Answer) -> Done {
         self.calls.clear();
-        self.compared.accepted += u64::from(model.accepted());
-        self.compared.refused += u64::from(!model.accepted());
-        self.agree(model, subject)
+        self.agree(model, subject)?;
+        match subject::other_name(&self.bus, self.subject) {
+            None => Ok(()),
+            Some((party, model, subject)) => self.differ(
+                format!("calls party {party} {model:?}"),
+                format!("{subject:?}"),
+            ),
+        }
     }
 
     fn call(&mut self, call: Call) -> Done {
@@ -81,21 +114,24 @@ impl Pair<'_> {
         self.differ(format!("{model:?}"), format!("{subject:?}"))
     }
 
-    /// The system party sends the listen address of one party to its end. Talk-only then tells who
-    /// listens: it is refused with 4 to a listener, and with 5 to all others.
+    /// The system party makes one party listen. Talk-only then tells who does: it is refused with 4
+    /// to a listener, and with 5 to all others.
     fn address_one(&mut self, random: &mut Random) -> Done {
         let system = self.built.1;
-        let address = random.pick(&self.built.0);
+        let name = random.pick(&self.built.0);
         self.call([CLEAR, system, 0, 0])?;
-        self.call([WRITE, system, LISTEN_ADDRESS + address, 0])?;
-        let parties = 0..self.bus.count as u8;
-        for _ in 0..4 {
-            for party in parties.clone() {
-                self.call([STEP, party, 0, 0])?;
+        for command in codes::addressing(LISTEN_ADDRESS, name) {
+            self.call([WRITE, system, command, 0])?;
+            for _ in 0..ROUNDS_A_COMMAND {
+                self.every_party(STEP, 0)?;
             }
         }
-        for party in parties {
-            self.call([TALK, party, 1, 0])?;
+        self.every_party(TALK, 1)
+    }
+
+    fn every_party(&mut self, operation: u8, value: u8) -> Done {
+        for party in 0..self.bus.count as u8 {
+            self.call([operation, party, value, 0])?;
         }
         Ok(())
     }
@@ -118,15 +154,48 @@ impl Pair<'_> {
         Ok(())
     }
 
-    /// Every number of parties with every system party, at falling addresses.
+    /// Every number of parties with every system party, at falling addresses and at one address.
     fn every_system_party(&mut self) -> Done {
         for count in 0..=MOST_PARTIES as u8 + 2 {
+            let addresses: Vec<u8> = (0..count).map(|place| 30 - place).collect();
+            let names: Vec<Name> = (0..count).map(|place| Name::extended(9, place)).collect();
             for system in (0..=count + 1).chain([255]) {
-                self.build((0..count).map(|place| 30 - place).collect(), system)?;
-                for party in 0..=count {
-                    self.call([CLEAR, party, 0, 0])?;
+                self.build(&addresses, system)?;
+                self.clear_by_each(count)?;
+                self.build_extended(&names, system)?;
+                self.clear_by_each(count)?;
+            }
+        }
+        Ok(())
+    }
+
+    fn clear_by_each(&mut self, count: u8) -> Done {
+        for party in 0..=count {
+            self.call([CLEAR, party, 0, 0])?;
+        }
+        self.call([LINES, 0, 0, 0])
+    }
+
+    /// Every two names of these, in both orders.
+    fn every_two_names(&mut self) -> Done {
+        let secondaries = [
+            None,
+            Some(0),
+            Some(12),
+            Some(30),
+            Some(31),
+            Some(254),
+            Some(255),
+        ];
+        let primaries = [0, 12, 30, 31, 255];
+        let with = |primary| secondaries.map(|secondary| Name { primary, secondary });
+        let names: Vec<Name> = primaries.into_iter().flat_map(with).collect();
+        for one in &names {
+            for two in &names {
+                for system in 0..3 {
+                    self.build_extended(&[*one, *two], system)?;
+                    self.call([CLEAR, system, 0, 0])?;
                 }
-                self.call([LINES, 0, 0, 0])?;
             }
         }
         Ok(())
@@ -135,7 +204,7 @@ impl Pair<'_> {
     /// Build's own number is no operation here.
     fn every_operation(&mut self) -> Done {
         for operation in 0..=255 {
-            self.build(vec![9, 30, 0], 1)?;
+            self.build(&[9, 30, 0], 1)?;
             for party in [0, 1, 3, 255] {
                 for value in 0..3 {
                     self.call([operation, party, value, value])?;
@@ -148,9 +217,13 @@ impl Pair<'_> {
 
     fn any_lists(&mut self, random: &mut Random) -> Done {
         for _ in 0..LISTS {
-            let addresses = address_list(random);
-            let system = random.field(addresses.len() + 2);
-            self.build(addresses, system)?;
+            if random.per_mille(500) {
+                let names = name_list(random);
+                self.build_extended(&names, random.field(names.len() + 2))?;
+            } else {
+                let addresses = address_list(random);
+                self.build(&addresses, random.field(addresses.len() + 2))?;
+            }
             if self.bus.count > 0 {
                 self.address_one(random)?;
             }
@@ -181,6 +254,16 @@ fn address_list(random: &mut Random) -> Vec<u8> {
     addresses
 }
 
+/// A rack of both sorts, then often one defect.
+fn name_list(random: &mut Random) -> Vec<Name> {
+    let count = random.below(18);
+    let mut names = racks::mixed(count, random);
+    if count > 0 && random.per_mille(500) {
+        racks::spoil(&mut names, random);
+    }
+    names
+}
+
 /// The error tells the build and the calls that lead to a difference.
 pub fn run(subject: &mut dyn Subject, seed: u64) -> Result<Compared, String> {
     subject.start();
@@ -192,6 +275,7 @@ pub fn run(subject: &mut dyn Subject, seed: u64) -> Result<Compared, String> {
         compared: Compared::default(),
     };
     pair.every_system_party()?;
+    pair.every_two_names()?;
     pair.every_operation()?;
     pair.any_lists(&mut Random::new(seed ^ u64::from(BUILD)))?;
     Ok(pair.compared)

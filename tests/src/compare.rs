@@ -3,7 +3,7 @@
 use std::panic::{catch_unwind, AssertUnwindSafe};
 
 use crate::list;
-use crate::model::{Answer, Turns};
+use crate::model::{Answer, Name, Turns};
 use crate::script::{self, LONGEST, RECORD};
 use crate::shrink;
 use crate::subject::Subject;
@@ -11,7 +11,7 @@ use crate::tally::Tally;
 use crate::walk;
 use crate::words;
 
-/// Where a list shows a fault. Records and runs are numbered from 1; a run's steps have its number.
+/// Where a list shows a fault. Its pieces are numbered from 1; a run's steps have its number.
 #[derive(Clone, PartialEq, Debug)]
 pub enum Difference {
     Answer {
@@ -23,6 +23,13 @@ pub enum Difference {
         number: usize,
         model: Turns,
         subject: Turns,
+    },
+    /// What the party is called by, if there is one.
+    Name {
+        number: usize,
+        party: u8,
+        model: Option<Name>,
+        subject: Option<Name>,
     },
     /// A run does not leave the bus that its steps leave.
     Bus {
@@ -48,8 +55,8 @@ pub enum Difference {
 
 impl Difference {
     pub fn words(&self) -> String {
-        match self.last_record() {
-            Some(number) => format!("record {number}: {}", self.story()),
+        match self.last_piece() {
+            Some(number) => format!("piece {number}: {}", self.story()),
             None => self.story(),
         }
     }
@@ -62,6 +69,14 @@ impl Difference {
             }
             Difference::Turns { model, subject, .. } => {
                 format!("model {model:?}, subject {subject:?}")
+            }
+            Difference::Name {
+                party,
+                model,
+                subject,
+                ..
+            } => {
+                format!("name of party {party}: model {model:?}, subject {subject:?}")
             }
             Difference::Bus { .. } => "the run leaves another bus than its steps".to_string(),
             Difference::Bound { model, subject, .. } => {
@@ -79,11 +94,12 @@ impl Difference {
         }
     }
 
-    /// The number of the last record or run that matters, if it is known.
-    pub fn last_record(&self) -> Option<usize> {
+    /// The number of the last piece that matters, if it is known.
+    pub fn last_piece(&self) -> Option<usize> {
         match self {
             Difference::Answer { number, .. }
             | Difference::Turns { number, .. }
+            | Difference::Name { number, .. }
             | Difference::Bus { number }
             | Difference::Bound { number, .. }
             | Difference::Ledger { number, .. } => Some(*number),
@@ -92,9 +108,11 @@ impl Difference {
     }
 }
 
-/// The text of the whole script that the list stands for.
+/// The text of the whole script that the list stands for, if there is one.
 fn compare_text(subject: &mut dyn Subject, list: &[u8]) -> Result<(), Difference> {
-    let script = &list::as_script(list);
+    let Some(script) = &list::as_script(list) else {
+        return Ok(());
+    };
     let (mut model, mut other) = (Vec::new(), Vec::new());
     script::run(script, &mut model);
     subject.run_script(script, &mut other);

@@ -1,7 +1,7 @@
 //! Writes lists call by call beside a bus, so that a byte can be walked to its end.
 
 use crate::list;
-use crate::model::{Answer, Bus, Event, MOST_PARTIES};
+use crate::model::{Answer, Bus, Event, Name, MOST_PARTIES};
 use crate::script::{self, Record, STEP, WRITE};
 
 #[derive(Clone, Default)]
@@ -19,6 +19,11 @@ impl Composer {
         let record = script::record(operation, party, value, extra);
         self.records.push(record);
         script::run_record(&mut self.bus, record)
+    }
+
+    pub fn build(&mut self, names: &[Name], system: u8) -> Answer {
+        self.records.extend(list::build(names, system));
+        self.bus.build_extended(names, system)
     }
 
     pub fn run(&mut self, turns: u16) {

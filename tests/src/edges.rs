@@ -1,16 +1,16 @@
-//! Tables run whole: builds, operations, places, heard bytes, poll registers, runs, damaged scripts.
+//! Tables run whole: builds, operations, places, poll registers, runs, damaged scripts.
 
+use crate::codes::SPE;
 use crate::compare::{Comparison, Finding};
 use crate::compose::Composer;
 use crate::guided::Guided;
+use crate::hearing;
 use crate::model::Event;
 use crate::random::Random;
 use crate::script::{self, Record, BUILD, CLEAR, LINES, LISTEN, LONGEST, POLL, READ, RECORD};
 use crate::script::{STANDBY, STEP, TAKE, TALK, WRITE};
 
 type Done = Result<(), Finding>;
-
-const SPE: u8 = 0x18;
 
 fn run_records(comparison: &mut Comparison, records: &[Record]) -> Done {
     comparison.list(&records.concat())
@@ -66,43 +66,6 @@ fn operations_and_places(comparison: &mut Comparison) -> Done {
             }
             records.push(script::record(LINES, 0, 0, 0));
             run_records(comparison, &records)?;
-        }
-    }
-    Ok(())
-}
-
-/// Flags that the parties at addresses 5, 6 and 7 may have when a byte is heard.
-const BEFORE_HEARING: [&[u8]; 7] = [
-    &[],
-    &[0x26],
-    &[0x25, 0x26, 0x27],
-    &[0x46],
-    &[0x45, 0x27],
-    &[0x26, 0x47, SPE],
-    &[0x46, SPE, 0x19],
-];
-
-/// Each of the 256 bytes as a command, then what the flags have become.
-fn heard_bytes(comparison: &mut Comparison, guided: &mut Guided) -> Done {
-    for flags in BEFORE_HEARING {
-        for byte in 0..=255 {
-            let mut composer = Composer::new();
-            composer.call(BUILD, 0, 3, 5);
-            composer.call(CLEAR, 0, 0, 0);
-            for command in flags {
-                composer.command(*command);
-            }
-            composer.command(byte);
-            for party in 0..3 {
-                composer.call(WRITE, party, 0x60 + party, 1);
-                composer.call(STANDBY, party, 0, 0);
-            }
-            for party in 0..3 {
-                composer.call(TALK, party, 1, 0);
-                composer.call(LISTEN, party, 1, 0);
-            }
-            composer.walk_until(Event::is_end);
-            comparison.list(guided.go_on(&composer.records, 12))?;
         }
     }
     Ok(())
@@ -194,7 +157,7 @@ fn damaged_scripts(comparison: &mut Comparison, random: &mut Random) -> Done {
 pub fn run(comparison: &mut Comparison, seed: u64) -> Done {
     builds(comparison)?;
     operations_and_places(comparison)?;
-    heard_bytes(comparison, &mut Guided::new(seed))?;
+    hearing::run(comparison, seed)?;
     poll_registers(comparison)?;
     runs(comparison, &mut Guided::new(seed))?;
     damaged_scripts(comparison, &mut Random::new(seed))

@@ -2,18 +2,21 @@
 
 use std::collections::VecDeque;
 
-use crate::list;
-use crate::model::{Acceptor, Bus, Control, Event};
+use crate::list::{self, Piece};
+use crate::model::{Acceptor, Bus, Control, Event, Name};
 use crate::plan::{
     any_party, controller, likely_command, likely_register, likely_turns, scenario, Goal,
 };
+use crate::racks;
 use crate::random::Random;
 use crate::script::{self, Record, BUILD, CLEAR, DROP, LINES, LISTEN, POLL, READ, RESET};
 use crate::script::{STANDBY, STEP, TAKE, TALK, WRITE};
 
 /// How one list behaves, in times per thousand.
-#[derive(Clone, Copy)]
+#[derive(Clone, Copy, Default)]
 struct Habits {
+    /// How often a build has secondaries.
+    secondaries: usize,
     disturb: usize,
     wild: usize,
     idle_steps: usize,
@@ -31,19 +34,12 @@ pub struct Guided {
 
 impl Guided {
     pub fn new(seed: u64) -> Guided {
-        let habits = Habits {
-            disturb: 0,
-            wild: 0,
-            idle_steps: 0,
-            reads: 0,
-            runs: 0,
-        };
         Guided {
             random: Random::new(seed),
             bus: Bus::new(),
             list: Vec::new(),
             plan: VecDeque::new(),
-            habits,
+            habits: Habits::default(),
         }
     }
 
@@ -65,6 +61,7 @@ impl Guided {
     pub fn go_on(&mut self, records: &[Record], more: usize) -> &[u8] {
         self.begin(records);
         self.habits = Habits {
+            secondaries: 0,
             disturb: 450,
             wild: 0,
             idle_steps: 250,
@@ -81,15 +78,14 @@ impl Guided {
     fn begin(&mut self, records: &[Record]) {
         self.list.clear();
         self.plan.clear();
-        self.bus = Bus::new();
-        for record in records {
-            self.call(*record);
-        }
+        self.list.extend(records.concat());
+        self.bus = list::bus_after(&self.list);
     }
 
     fn draw_habits(&mut self) {
         let random = &mut self.random;
         self.habits = Habits {
+            secondaries: random.pick(&[0, 950]),
             disturb: random.pick(&[0, 20, 60, 150, 400]),
             wild: random.pick(&[0, 0, 0, 5, 30, 300]),
             idle_steps: random.pick(&[0, 20, 100, 400]),
@@ -123,23 +119,27 @@ impl Guided {
             17..=18 => 1 + random.below(15),
             _ => random.pick(&[14, 15]),
         };
+        let system = random.below(count) as u8;
+        if random.per_mille(self.habits.secondaries) {
+            let names = racks::mixed(count, random);
+            return self.build(&names, system);
+        }
         let first = match random.below(4) {
             0 => 0,
             1 => 31 - count,
             _ => random.below(32 - count),
         };
-        let system = random.below(count);
-        self.call(script::record(
-            BUILD,
-            system as u8,
-            count as u8,
-            first as u8,
-        ));
+        self.call(script::record(BUILD, system, count as u8, first as u8));
     }
 
     fn bad_build(&mut self) {
         let random = &mut self.random;
         let count = 1 + random.below(15) as u8;
+        if random.per_mille(self.habits.secondaries) {
+            let mut names = racks::mixed(count.into(), random);
+            racks::spoil(&mut names, random);
+            return self.build(&names, 0);
+        }
         let record = match random.below(5) {
             0 => script::record(BUILD, random.below(2) as u8, 0, random.below(31) as u8),
             1 => script::record(BUILD, 0, 16 + random.below(240) as u8, 0),
@@ -161,8 +161,13 @@ impl Guided {
     }
 
     fn call(&mut self, record: Record) {
-        list::enter(&mut self.bus, record);
+        list::enter(&mut self.bus, &Piece::of(&record));
         self.list.extend_from_slice(&record);
+    }
+
+    fn build(&mut self, names: &[Name], system: u8) {
+        self.bus.build_extended(names, system);
+        self.list.extend(list::build(names, system).concat());
     }
 
     fn next_call(&mut self) {

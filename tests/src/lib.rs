@@ -1,17 +1,21 @@
-//! A second model of document 01, and the driver that compares it with a subject.
+//! A second model of documents 01 and 02, and the driver that compares it with a subject.
 
 pub mod bench;
 pub mod bound;
 pub mod builds;
+pub mod codes;
 pub mod compare;
 pub mod compose;
 pub mod edges;
 pub mod guided;
+pub mod hearing;
 pub mod ledger;
 pub mod list;
+pub mod marks;
 pub mod model;
 pub mod plan;
 pub mod product;
+pub mod racks;
 pub mod random;
 pub mod run;
 pub mod script;

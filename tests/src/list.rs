@@ -1,15 +1,49 @@
-//! Lists as the comparison makes them: the records of a script, and runs among them, which no script
-//! can ask for. A run has six bytes too, with a mark of its own, so that a list is cut as a script is.
+//! Lists as the comparison makes them: the records of a script, and among them runs and builds with
+//! secondaries, which no script can ask for. These come in sixes of bytes too, each with a mark of
+//! its own, so that a list is cut as a script is.
 
 use std::borrow::Cow;
+use std::mem;
 
-use crate::model::{Answer, Bus};
+use crate::model::{Answer, Bus, Name, Refusal};
 use crate::script::{self, Record, BUILD, RECORD, STEP};
 
 const RUN_MARK: [u8; 2] = [0x52, 0x54];
+const NAME_MARK: [u8; 2] = [0x4E, 0x41];
+const BUILD_MARK: [u8; 2] = [0x58, 0x50];
 
 /// Stands where a record has its operation, and is none.
 const NO_OPERATION: u8 = 255;
+
+/// What six bytes of a list ask for.
+#[derive(Clone, PartialEq, Debug)]
+pub enum Piece {
+    Run(u16),
+    /// One party of the build that follows.
+    Name(Name),
+    /// The parties named right before, and the system party.
+    Build(Vec<Name>, u8),
+    Record(Record),
+    /// Fewer than six bytes.
+    Tail,
+}
+
+impl Piece {
+    /// A piece by itself, so that a build has no names.
+    pub fn of(bytes: &[u8]) -> Piece {
+        let Ok(record) = Record::try_from(bytes) else {
+            return Piece::Tail;
+        };
+        let [mark, second, _, fields @ ..] = record;
+        match ([mark, second], fields) {
+            (RUN_MARK, [_, high, low]) => Piece::Run(u16::from_be_bytes([high, low])),
+            (NAME_MARK, [primary, 0, _]) => Piece::Name(Name::plain(primary)),
+            (NAME_MARK, [primary, _, own]) => Piece::Name(Name::extended(primary, own)),
+            (BUILD_MARK, [system, ..]) => Piece::Build(Vec::new(), system),
+            _ => Piece::Record(record),
+        }
+    }
+}
 
 /// A run of so many turns.
 pub const fn run(turns: u16) -> Record {
@@ -17,43 +51,98 @@ pub const fn run(turns: u16) -> Record {
     [RUN_MARK[0], RUN_MARK[1], NO_OPERATION, 0, high, low]
 }
 
-/// How many turns, if this is a run.
-pub fn turns_of(piece: &[u8]) -> Option<u16> {
-    match *piece {
-        [mark, second, _, _, high, low] if [mark, second] == RUN_MARK => {
-            Some(u16::from_be_bytes([high, low]))
+fn name(name: Name) -> Record {
+    let (has, secondary) = match name.secondary {
+        Some(own) => (1, own),
+        None => (0, 0),
+    };
+    let [mark, second] = NAME_MARK;
+    [mark, second, NO_OPERATION, name.primary, has, secondary]
+}
+
+/// The build itself, whose names stand before it.
+pub fn build_of_named(system: u8) -> Record {
+    [BUILD_MARK[0], BUILD_MARK[1], BUILD, system, 0, 0]
+}
+
+/// A build of parties with these names.
+pub fn build(names: &[Name], system: u8) -> Vec<Record> {
+    let named = names.iter().map(|party| name(*party));
+    named.chain([build_of_named(system)]).collect()
+}
+
+/// The pieces of a list one after the other, builds with their names.
+pub fn pieces(list: &[u8]) -> impl Iterator<Item = Piece> + '_ {
+    let mut names = Vec::new();
+    list.chunks(RECORD).map(move |bytes| {
+        let before = mem::take(&mut names);
+        match Piece::of(bytes) {
+            Piece::Name(name) => {
+                names = before;
+                names.push(name);
+                Piece::Name(name)
+            }
+            Piece::Build(_, system) => Piece::Build(before, system),
+            other => other,
         }
-        _ => None,
+    })
+}
+
+/// One piece on a kept bus. Of a run the answer has the refusal alone.
+pub fn enter(bus: &mut Bus, piece: &Piece) -> Answer {
+    match piece {
+        Piece::Run(turns) => Answer::refused(bus.give_turns(*turns).refusal),
+        Piece::Name(_) => Answer::NOTHING,
+        Piece::Build(names, system) => bus.build_extended(names, *system),
+        Piece::Record(record) => script::run_record(bus, *record),
+        Piece::Tail => Answer::refused(Refusal::Record),
     }
 }
 
-/// One record or run on a kept bus. Of a run the answer has the refusal alone.
-pub fn enter(bus: &mut Bus, piece: Record) -> Answer {
-    match turns_of(&piece) {
-        Some(turns) => Answer::refused(bus.give_turns(turns).refusal),
-        None => script::run_record(bus, piece),
+/// The bus that a list leads to.
+pub fn bus_after(list: &[u8]) -> Bus {
+    let mut bus = Bus::new();
+    for piece in pieces(list) {
+        enter(&mut bus, &piece);
     }
+    bus
 }
 
 /// The script that a list stands for: each run is its steps, and a refused one is none.
-pub fn as_script(list: &[u8]) -> Cow<'_, [u8]> {
-    let mut pieces = list.chunks(RECORD);
-    if !pieces.any(|piece| turns_of(piece).is_some()) {
-        return Cow::Borrowed(list);
+/// None if the list has a build with names.
+pub fn as_script(list: &[u8]) -> Option<Cow<'_, [u8]>> {
+    let mut all_records = true;
+    for bytes in list.chunks(RECORD) {
+        match Piece::of(bytes) {
+            Piece::Name(_) | Piece::Build(..) => return None,
+            Piece::Run(_) => all_records = false,
+            Piece::Record(_) | Piece::Tail => {}
+        }
     }
+    Some(if all_records {
+        Cow::Borrowed(list)
+    } else {
+        Cow::Owned(with_steps(list))
+    })
+}
+
+fn with_steps(list: &[u8]) -> Vec<u8> {
     let mut bus = Bus::new();
     let mut script = Vec::new();
-    for piece in list.chunks(RECORD) {
-        if let Some(turns) = turns_of(piece) {
-            let steps = bus.order_of(turns);
-            script.extend(steps.flat_map(|party| script::record(STEP, party, 0, 0)));
-            continue;
+    for bytes in list.chunks(RECORD) {
+        match Piece::of(bytes) {
+            Piece::Run(turns) => {
+                let steps = bus.order_of(turns);
+                script.extend(steps.flat_map(|party| script::record(STEP, party, 0, 0)));
+                continue;
+            }
+            // A run's order needs the number of parties, which no other call changes.
+            Piece::Record(build @ [_, _, BUILD, ..]) => {
+                script::run_record(&mut bus, build);
+            }
+            _ => {}
         }
-        script.extend_from_slice(piece);
-        // A run's order needs the number of parties, which no other call changes.
-        if let Ok(build @ [_, _, BUILD, ..]) = Record::try_from(piece) {
-            script::run_record(&mut bus, build);
-        }
+        script.extend_from_slice(bytes);
     }
-    Cow::Owned(script)
+    script
 }

@@ -1,14 +1,16 @@
-//! The bus of document 01, kept in place and changed by its calls.
+//! The bus of document 01 with the requests of document 02, kept in place and changed by its calls.
 
 mod answer;
 mod host;
+mod name;
 mod party;
 mod step;
 mod turns;
 
 pub use answer::{Answer, Event, Refusal};
+pub use name::Name;
 pub use party::{
-    Acceptor, Control, Data, Party, Service, Source, ATN, DAV, EOI, NDAC, NRFD, RSV, SRQ, TCT,
+    Acceptor, Control, Data, Mark, Party, Service, Source, ATN, DAV, EOI, NDAC, NRFD, RSV, SRQ, TCT,
 };
 pub use turns::{Turns, Waiting};
 
@@ -64,6 +66,11 @@ impl Bus {
         &mut self.parties[..self.count]
     }
 
+    pub fn has_secondaries(&self) -> bool {
+        let mut parties = self.present().iter();
+        parties.any(|party| party.name.secondary.is_some())
+    }
+
     fn place(&self, party: u8) -> Result<usize, Answer> {
         let place = usize::from(party);
         if place < self.count {
@@ -107,6 +114,7 @@ impl Bus {
         let atn = self.atn();
         for party in self.present_mut() {
             party.source = Source::Sids;
+            party.mark = None;
             let accepts = if atn {
                 !party.is_active()
             } else {

@@ -1,18 +1,11 @@
 //! What a guided list sets out to do: short lists of goals.
 
 use crate::bound::TURNS_A_PARTY;
+use crate::codes::{self, DCL, GET, LISTEN_ADDRESS, NEITHER, NO_MEANING, SDC, SECONDARY};
+use crate::codes::{SPD, SPE, TALK_ADDRESS, TCT, UNL, UNT};
 use crate::model::{Bus, Control};
 use crate::random::Random;
 use crate::script::{CLEAR, DROP, LISTEN, POLL, RESET, STANDBY, TAKE, TALK, WRITE};
-
-pub const UNL: u8 = 0x3F;
-pub const UNT: u8 = 0x5F;
-const SDC: u8 = 0x04;
-const GET: u8 = 0x08;
-const TCT: u8 = 0x09;
-const DCL: u8 = 0x14;
-const SPE: u8 = 0x18;
-const SPD: u8 = 0x19;
 
 #[derive(Clone, Copy, Debug)]
 pub enum Goal {
@@ -52,30 +45,39 @@ fn other_party(bus: &Bus, party: u8, random: &mut Random) -> u8 {
     ((usize::from(party) + 1 + random.below(others)) % count) as u8
 }
 
-fn listen_address(bus: &Bus, party: u8) -> u8 {
-    0x20 + bus.parties[usize::from(party)].address
+/// The active party addresses this one, to talk or to listen.
+fn address(goals: &mut Vec<Goal>, primary: u8, bus: &Bus, party: u8) {
+    let name = bus.parties[usize::from(party)].name;
+    goals.extend(codes::addressing(primary, name).map(Goal::Command));
 }
 
-fn talk_address(bus: &Bus, party: u8) -> u8 {
-    0x40 + bus.parties[usize::from(party)].address
+/// Mostly the secondary of some party.
+fn likely_secondary(bus: &Bus, random: &mut Random) -> u8 {
+    let name = bus.parties[usize::from(any_party(bus, random))].name;
+    match (random.below(10), name.secondary) {
+        (0, _) => NEITHER,
+        (2.., Some(own)) => SECONDARY + own,
+        _ => SECONDARY + random.below(31) as u8,
+    }
 }
 
 /// A byte that is likely to mean something on this bus, now and then with bit 128.
 pub fn likely_command(bus: &Bus, random: &mut Random) -> u8 {
-    let party = any_party(bus, random);
-    let byte = match random.below(16) {
-        0..=2 => listen_address(bus, party),
-        3..=5 => talk_address(bus, party),
+    let name = bus.parties[usize::from(any_party(bus, random))].name;
+    let byte = match random.below(18) {
+        0..=2 => LISTEN_ADDRESS + name.primary,
+        3..=5 => TALK_ADDRESS + name.primary,
         6 => UNL,
         7 => UNT,
-        8 => 0x20 + random.below(32) as u8,
-        9 => 0x40 + random.below(32) as u8,
+        8 => LISTEN_ADDRESS + random.below(32) as u8,
+        9 => TALK_ADDRESS + random.below(32) as u8,
         10 => random.pick(&[SPE, SPD]),
         11 => TCT,
         12 => random.pick(&[SDC, GET, DCL]),
         13 => random.pick(&[SPE, SPD, TCT, SDC, GET, DCL]),
         14 => random.below(0x20) as u8,
-        _ => random.byte(),
+        15 => random.byte(),
+        _ => likely_secondary(bus, random),
     };
     byte | if random.per_mille(100) { 0x80 } else { 0 }
 }
@@ -121,7 +123,10 @@ const SCENARIOS: [Scenario; 14] = [
 /// Goals for one scenario of chance, never none.
 pub fn scenario(bus: &Bus, random: &mut Random) -> Vec<Goal> {
     let mut goals = Vec::new();
-    random.pick(&SCENARIOS)(bus, random, &mut goals);
+    let by_two_bytes = bus.has_secondaries() && random.per_mille(300);
+    let any = random.pick(&SCENARIOS);
+    let chosen = if by_two_bytes { secondaries } else { any };
+    chosen(bus, random, &mut goals);
     goals.push(Goal::Walk(1 + random.below(4)));
     goals
 }
@@ -157,12 +162,10 @@ fn address_and_send(bus: &Bus, random: &mut Random, goals: &mut Vec<Goal>) {
     }
     let talker = any_party(bus, random);
     for _ in 0..1 + random.below(3) {
-        goals.push(Goal::Command(listen_address(
-            bus,
-            other_party(bus, talker, random),
-        )));
+        let listener = other_party(bus, talker, random);
+        address(goals, LISTEN_ADDRESS, bus, listener);
     }
-    goals.push(Goal::Command(talk_address(bus, talker)));
+    address(goals, TALK_ADDRESS, bus, talker);
     goals.push(Goal::Release);
     for _ in 0..1 + random.below(8) {
         goals.push(Goal::Data);
@@ -180,13 +183,13 @@ fn serial_poll(bus: &Bus, random: &mut Random, goals: &mut Vec<Goal>) {
     goals.push(Goal::Call(POLL, polled, likely_register(random), 0));
     goals.push(Goal::Gain);
     if random.per_mille(800) {
-        goals.push(Goal::Command(listen_address(bus, controller(bus))));
+        address(goals, LISTEN_ADDRESS, bus, controller(bus));
     }
     if random.per_mille(300) {
         goals.push(Goal::Call(WRITE, polled, random.byte(), 1));
     }
     goals.push(Goal::Command(SPE));
-    goals.push(Goal::Command(talk_address(bus, polled)));
+    address(goals, TALK_ADDRESS, bus, polled);
     goals.push(Goal::Release);
     goals.push(Goal::Walk(8 + random.below(20)));
     if random.per_mille(500) {
@@ -203,7 +206,7 @@ fn serial_poll(bus: &Bus, random: &mut Random, goals: &mut Vec<Goal>) {
 fn pass_control(bus: &Bus, random: &mut Random, goals: &mut Vec<Goal>) {
     let next = any_party(bus, random);
     goals.push(Goal::Gain);
-    goals.push(Goal::Command(talk_address(bus, next)));
+    address(goals, TALK_ADDRESS, bus, next);
     if random.per_mille(400) {
         goals.push(Goal::Call(WRITE, next, random.byte(), 0));
     }
@@ -220,7 +223,7 @@ fn pass_control(bus: &Bus, random: &mut Random, goals: &mut Vec<Goal>) {
 
 fn signals(bus: &Bus, random: &mut Random, goals: &mut Vec<Goal>) {
     goals.push(Goal::Gain);
-    goals.push(Goal::Command(listen_address(bus, any_party(bus, random))));
+    address(goals, LISTEN_ADDRESS, bus, any_party(bus, random));
     for _ in 0..1 + random.below(4) {
         goals.push(Goal::Command(random.pick(&[SDC, GET, DCL, GET | 0x80])));
     }
@@ -245,7 +248,7 @@ fn nobody_listens(bus: &Bus, random: &mut Random, goals: &mut Vec<Goal>) {
     goals.push(Goal::Gain);
     goals.push(Goal::Command(UNL));
     goals.push(Goal::Command(random.pick(&[SPE, SPD])));
-    goals.push(Goal::Command(talk_address(bus, talker)));
+    address(goals, TALK_ADDRESS, bus, talker);
     goals.push(Goal::Release);
     goals.push(Goal::Call(
         WRITE,
@@ -254,4 +257,51 @@ fn nobody_listens(bus: &Bus, random: &mut Random, goals: &mut Vec<Goal>) {
         random.below(2) as u8,
     ));
     goals.push(Goal::Walk(4));
+}
+
+/// Primaries and secondaries in all orders, often with something between them.
+fn secondaries(bus: &Bus, random: &mut Random, goals: &mut Vec<Goal>) {
+    goals.push(Goal::Gain);
+    for _ in 0..1 + random.below(3) {
+        let name = bus.parties[usize::from(any_party(bus, random))].name;
+        let primary = random.pick(&[LISTEN_ADDRESS, TALK_ADDRESS, TALK_ADDRESS]);
+        goals.push(Goal::Command(primary + name.primary));
+        for _ in 0..1 + random.below(3) {
+            if random.per_mille(250) {
+                between(bus, random, goals);
+            }
+            let any = likely_secondary(bus, random);
+            let own = name.secondary.map_or(any, |own| SECONDARY + own);
+            goals.push(Goal::Command(random.pick(&[own, any])));
+        }
+    }
+    match random.below(4) {
+        0 => goals.push(Goal::Command(TCT)),
+        1 => goals.extend([Goal::Release, Goal::Data, Goal::Finish(8 * bus.count)]),
+        2 => goals.extend([Goal::Command(SPE), Goal::Release, Goal::Walk(12)]),
+        _ => tell_roles(bus, random, goals),
+    }
+}
+
+/// Under ATN talk-only is refused with 4 to who listens, and listen-only to who talks.
+fn tell_roles(bus: &Bus, random: &mut Random, goals: &mut Vec<Goal>) {
+    for party in 0..bus.count as u8 {
+        goals.push(Goal::Call(TALK, party, 1, 0));
+    }
+    goals.push(Goal::Call(LISTEN, any_party(bus, random), 1, 0));
+}
+
+/// What may or may not cost a party its mark: a command, a host's call, or other attention.
+fn between(bus: &Bus, random: &mut Random, goals: &mut Vec<Goal>) {
+    let party = any_party(bus, random);
+    match random.below(8) {
+        0 => goals.push(Goal::Command(NEITHER)),
+        1 => goals.push(Goal::Command(random.pick(&[DCL, SDC, GET, SPE, SPD]))),
+        2 => goals.push(Goal::Command(random.pick(&[NO_MEANING, UNL, UNT]))),
+        3 => goals.push(Goal::Command(likely_command(bus, random))),
+        4 => goals.push(Goal::Call(RESET, party, 0, 0)),
+        5 => goals.push(Goal::Call(LISTEN, party, random.below(2) as u8, 0)),
+        6 => goals.push(Goal::Call(TALK, party, 0, 0)),
+        _ => goals.extend([Goal::Release, Goal::Gain]),
+    }
 }

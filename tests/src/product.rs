@@ -2,7 +2,7 @@
 
 use meskvorn::Bus;
 
-use crate::model::{Answer, Event, Refusal, Turns};
+use crate::model::{Answer, Event, Name, Refusal, Turns};
 use crate::script::{Call, CLEAR, DROP, LINES, LISTEN, POLL, READ, RECORD, RESET, STANDBY, STEP};
 use crate::script::{TAKE, TALK, WRITE};
 use crate::subject::{try_run_by, Subject};
@@ -77,6 +77,25 @@ impl Subject for Product {
 
     fn build(&mut self, addresses: &[u8], system: u8) -> Answer {
         in_the_models_terms(self.bus.rebuild(addresses, system))
+    }
+
+    fn build_extended(&mut self, names: &[Name], system: u8) -> Answer {
+        let names: Vec<meskvorn::Name> = names
+            .iter()
+            .map(|name| meskvorn::Name {
+                primary: name.primary,
+                secondary: name.secondary,
+            })
+            .collect();
+        in_the_models_terms(self.bus.rebuild_extended(&names, system))
+    }
+
+    fn name(&self, party: u8) -> Option<Name> {
+        let told = self.bus.name(party)?;
+        Some(Name {
+            primary: told.primary,
+            secondary: told.secondary,
+        })
     }
 
     fn call(&mut self, asked: Call) -> Answer {

@@ -61,10 +61,7 @@ pub fn random_run(subject: &mut dyn Subject, seed: u64, records: u64) -> bool {
             return false;
         }
     };
-    println!(
-        "address lists: {} accepted, {} refused; {} runs",
-        lists.accepted, lists.refused, lists.runs
-    );
+    lists.print();
     let mut comparison = Comparison::new(subject);
     let kinds = match all_parts(&mut comparison, seed, records) {
         Ok(kinds) => kinds,

@@ -29,6 +29,10 @@ pub const fn record(operation: u8, party: u8, value: u8, extra: u8) -> Record {
     [MARK[0], MARK[1], operation, party, value, extra]
 }
 
+pub fn has_mark(record: &Record) -> bool {
+    record.starts_with(&MARK)
+}
+
 /// One record, by the build (addresses, system party) or the call that it asks for; a wrong mark
 /// leaves the machine as it is.
 pub fn run_record_by<M: ?Sized>(
@@ -37,10 +41,10 @@ pub fn run_record_by<M: ?Sized>(
     build: fn(&mut M, &[u8], u8) -> Answer,
     call: fn(&mut M, Call) -> Answer,
 ) -> Answer {
-    let [mark, second, operation, party, value, extra] = record;
-    if [mark, second] != MARK {
+    if !has_mark(&record) {
         return Answer::refused(Refusal::Record);
     }
+    let [_, _, operation, party, value, extra] = record;
     if operation != BUILD {
         return call(machine, [operation, party, value, extra]);
     }

@@ -1,21 +1,38 @@
 //! Makes a list that shows a difference as short as it gets.
 
 use crate::compare::{compare, Difference, Finding};
-use crate::list;
+use crate::list::Piece;
 use crate::script::{BUILD, LINES, RECORD, WRITE};
 use crate::subject::Subject;
 use crate::tally::Tally;
 
-fn is_build(piece: &[u8]) -> bool {
-    piece.len() == RECORD && piece[2] == BUILD
+/// How many parties the piece at this place builds, if it is a build.
+fn parties_built(pieces: &[Vec<u8>], at: usize) -> Option<usize> {
+    match Piece::of(&pieces[at]) {
+        Piece::Record([_, _, BUILD, _, count, _]) => Some(count.into()),
+        Piece::Build(..) => {
+            let before = pieces[..at].iter().rev();
+            let names = before.take_while(|piece| matches!(Piece::of(piece), Piece::Name(_)));
+            Some(names.count())
+        }
+        _ => None,
+    }
+}
+
+/// The places of builds.
+fn builds(pieces: &[Vec<u8>]) -> Vec<usize> {
+    let places = 0..pieces.len();
+    places
+        .filter(|&at| parties_built(pieces, at).is_some())
+        .collect()
 }
 
 /// A call as it is once party `gone` is not built; None if it was a call of that party.
-/// `address` is the gone party's: those above it move down by one, in commands too.
-fn renumbered(piece: &[u8], gone: u8, address: u8) -> Option<Vec<u8>> {
+/// Addresses above `moved` move down by one in commands.
+fn renumbered(piece: &[u8], gone: u8, moved: u8) -> Option<Vec<u8>> {
     let mut piece = piece.to_vec();
-    let of_no_party = piece.len() < RECORD || piece[2] == LINES;
-    if of_no_party || list::turns_of(&piece).is_some() {
+    let of_a_party = matches!(Piece::of(&piece), Piece::Record(record) if record[2] != LINES);
+    if !of_a_party {
         return Some(piece);
     }
     if piece[3] == gone {
@@ -23,7 +40,7 @@ fn renumbered(piece: &[u8], gone: u8, address: u8) -> Option<Vec<u8>> {
     }
     piece[3] -= u8::from(piece[3] > gone);
     let is_address = matches!(piece[4] & 0x7F, 0x20..=0x3E | 0x40..=0x5E);
-    if piece[2] == WRITE && is_address && piece[4] & 0x1F > address {
+    if piece[2] == WRITE && is_address && piece[4] & 0x1F > moved {
         piece[4] -= 1;
     }
     Some(piece)
@@ -31,19 +48,23 @@ fn renumbered(piece: &[u8], gone: u8, address: u8) -> Option<Vec<u8>> {
 
 /// The list without party `gone` of the build at `at`, up to the next build.
 fn without_party(pieces: &[Vec<u8>], at: usize, gone: u8) -> Vec<Vec<u8>> {
-    let mut build = pieces[at].clone();
-    let address = build[5].saturating_add(gone);
+    let (mut fewer, mut build) = (pieces[..at].to_vec(), pieces[at].clone());
     build[3] -= u8::from(build[3] > gone);
-    build[4] -= 1;
+    let moved = match (Piece::of(&build), parties_built(pieces, at)) {
+        (Piece::Build(..), Some(names)) => {
+            fewer.remove(at - names + usize::from(gone));
+            u8::MAX
+        }
+        _ => {
+            build[4] -= 1;
+            build[5].saturating_add(gone)
+        }
+    };
     let after = &pieces[at + 1..];
-    let next = after
-        .iter()
-        .position(|piece| is_build(piece))
-        .unwrap_or(after.len());
+    let next = *builds(after).first().unwrap_or(&after.len());
     let calls = after[..next]
         .iter()
-        .filter_map(|piece| renumbered(piece, gone, address));
-    let mut fewer = pieces[..at].to_vec();
+        .filter_map(|piece| renumbered(piece, gone, moved));
     fewer.push(build);
     fewer.extend(calls);
     fewer.extend_from_slice(&after[next..]);
@@ -70,7 +91,7 @@ impl Shrinker<'_> {
     }
 
     fn cut_after_difference(&mut self) {
-        if let Some(last) = self.difference.last_record() {
+        if let Some(last) = self.difference.last_piece() {
             let pieces = self.pieces[..last.min(self.pieces.len())].to_vec();
             self.try_pieces(pieces);
         }
@@ -96,10 +117,11 @@ impl Shrinker<'_> {
     /// Leaves out whole parties; true if any could go.
     fn fewer_parties(&mut self) -> bool {
         let mut any = false;
-        for at in 0..self.pieces.len() {
+        for number in 0..builds(&self.pieces).len() {
             for gone in (0..16).rev() {
-                let build = self.pieces.get(at).filter(|piece| is_build(piece));
-                if build.is_some_and(|build| gone < build[4]) {
+                let at = builds(&self.pieces)[number];
+                let built = parties_built(&self.pieces, at);
+                if built.is_some_and(|count| usize::from(gone) < count) {
                     any |= self.try_pieces(without_party(&self.pieces, at, gone));
                 }
             }

@@ -3,7 +3,7 @@
 use crate::bound::{Start, TURNS_A_PARTY};
 use crate::compare::{Comparison, Finding};
 use crate::compose::Composer;
-use crate::model::{Acceptor, Event};
+use crate::model::{Acceptor, Event, Name};
 use crate::script::{BUILD, LISTEN, READ, STEP, TALK, WRITE};
 
 type Done = Result<(), Finding>;
@@ -21,10 +21,27 @@ fn listens(state: Acceptor) -> bool {
     state != Acceptor::Aids
 }
 
+/// Builds so many parties.
+type Rack = fn(&mut Composer, u8);
+
+fn plain(composer: &mut Composer, count: u8) {
+    composer.call(BUILD, 0, count, 3);
+}
+
+/// Every third party without a secondary, the others at one primary.
+fn mixed(composer: &mut Composer, count: u8) {
+    let name = |place| match place % 3 {
+        0 => Name::plain(place),
+        _ => Name::extended(20, place),
+    };
+    let names: Vec<Name> = (0..count).map(name).collect();
+    composer.build(&names, 0);
+}
+
 /// The talker has a byte for the parties that listen.
-fn offered(states: &[Acceptor], talker: u8) -> Composer {
+fn offered(rack: Rack, states: &[Acceptor], talker: u8) -> Composer {
     let mut composer = Composer::new();
-    composer.call(BUILD, 0, states.len() as u8, 3);
+    rack(&mut composer, states.len() as u8);
     composer.call(TALK, talker, 1, 0);
     for (party, state) in (0..).zip(states) {
         if listens(*state) {
@@ -46,8 +63,8 @@ fn another_byte(composer: &mut Composer, talker: u8) {
 }
 
 /// A start with each party in the state given; the talker's is AIDS.
-fn start_in(states: &[Acceptor], talker: u8) -> Composer {
-    let mut composer = offered(states, talker);
+fn start_in(rack: Rack, states: &[Acceptor], talker: u8) -> Composer {
+    let mut composer = offered(rack, states, talker);
     composer.walk_until(Event::is_put);
     for (party, state) in (0..).zip(states) {
         let steps = match state {
@@ -72,7 +89,7 @@ fn start_in(states: &[Acceptor], talker: u8) -> Composer {
 }
 
 /// All states of all parties beside the talker, for few parties.
-fn few_parties(comparison: &mut Comparison) -> Done {
+fn few_parties(comparison: &mut Comparison, rack: Rack) -> Done {
     for count in 2..=4 {
         let others = count - 1;
         for talker in 0..count {
@@ -82,7 +99,7 @@ fn few_parties(comparison: &mut Comparison) -> Done {
                     .map(|place| STATES[digit(place)])
                     .collect();
                 states.insert(talker, Acceptor::Aids);
-                let composer = start_in(&states, talker as u8);
+                let composer = start_in(rack, &states, talker as u8);
                 comparison.list(&composer.records.concat())?;
             }
         }
@@ -91,12 +108,12 @@ fn few_parties(comparison: &mut Comparison) -> Done {
 }
 
 /// Many listeners, in the states that they have after so many turns of the byte before.
-fn many_parties(comparison: &mut Comparison) -> Done {
+fn many_parties(comparison: &mut Comparison, rack: Rack) -> Done {
     for count in [8, 15] {
         for talker in 0..count {
             for turns in 0..5 * count {
                 let states = vec![Acceptor::Acrs; count.into()];
-                let mut composer = offered(&states, talker as u8);
+                let mut composer = offered(rack, &states, talker as u8);
                 composer.run(turns);
                 another_byte(&mut composer, talker as u8);
                 composer.run(TURNS_A_PARTY * count);
@@ -108,6 +125,9 @@ fn many_parties(comparison: &mut Comparison) -> Done {
 }
 
 pub fn run(comparison: &mut Comparison) -> Done {
-    few_parties(comparison)?;
-    many_parties(comparison)
+    for rack in [plain, mixed] {
+        few_parties(comparison, rack)?;
+        many_parties(comparison, rack)?;
+    }
+    Ok(())
 }

@@ -1,6 +1,6 @@
 //! The thing under test, as the comparison drives it.
 
-use crate::model::{Answer, Bus, Turns};
+use crate::model::{Answer, Bus, Name, Turns, MOST_PARTIES};
 use crate::script::{self, Call, Record};
 
 pub trait Subject {
@@ -13,6 +13,12 @@ pub trait Subject {
 
     /// Builds the kept bus from addresses in any order, as no record can.
     fn build(&mut self, addresses: &[u8], system: u8) -> Answer;
+
+    /// The same with secondaries.
+    fn build_extended(&mut self, names: &[Name], system: u8) -> Answer;
+
+    /// What a build named the party, if there is one.
+    fn name(&self, party: u8) -> Option<Name>;
 
     /// One call on the kept bus by its operation's number. A build is none.
     fn call(&mut self, call: Call) -> Answer;
@@ -28,6 +34,13 @@ pub trait Subject {
     fn record(&mut self, record: Record) -> Answer {
         script::run_record_by(self, record, Self::build, Self::call)
     }
+}
+
+/// The first party that model and subject call by different names, with both.
+pub fn other_name(bus: &Bus, subject: &dyn Subject) -> Option<(u8, Option<Name>, Option<Name>)> {
+    let parties = (0..=MOST_PARTIES as u8).chain([u8::MAX]);
+    let mut names = parties.map(|party| (party, bus.name(party), subject.name(party)));
+    names.find(|(_, model, told)| model != told)
 }
 
 /// `try_run` for a subject that keeps such a bus.
@@ -61,6 +74,14 @@ impl Subject for ModelSubject {
 
     fn build(&mut self, addresses: &[u8], system: u8) -> Answer {
         self.bus.build(addresses, system)
+    }
+
+    fn build_extended(&mut self, names: &[Name], system: u8) -> Answer {
+        self.bus.build_extended(names, system)
+    }
+
+    fn name(&self, party: u8) -> Option<Name> {
+        self.bus.name(party)
     }
 
     fn call(&mut self, call: Call) -> Answer {

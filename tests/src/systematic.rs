@@ -6,8 +6,8 @@ use crate::bound::TURNS_A_PARTY;
 use crate::compare::{Comparison, Finding};
 use crate::compose::Composer;
 use crate::guided::Guided;
-use crate::list;
-use crate::model::{Acceptor, Bus, Control, Kind, Service, Source, ATN, DAV};
+use crate::list::{self, Piece};
+use crate::model::{Acceptor, Bus, Control, Kind, Mark, Name, Service, Source, ATN, DAV};
 use crate::script::{self, Record, BUILD, CLEAR, DROP, LINES, LISTEN, POLL, READ, RESET, STANDBY};
 use crate::script::{STEP, TAKE, TALK, WRITE};
 
@@ -16,10 +16,24 @@ const FIRST_ADDRESS: u8 = 5;
 const LONGEST_PREFIX: usize = 90;
 const TAIL: usize = 10;
 
+/// UNL, UNT, SPE, SPD, TCT, and the addresses of the rack without secondaries.
+const COMMANDS: &[u8] = &[
+    0x3F, 0x5F, 0x18, 0x19, 0x09, 0x25, 0x45, 0x26, 0x46, 0x27, 0x47,
+];
+
+/// The same for the rack with secondaries.
+const EXTENDED_COMMANDS: &[u8] = &[
+    0x3F, 0x5F, 0x18, 0x19, 0x09, 0x25, 0x45, 0x26, 0x46, 0x61, 0x62,
+];
+
+const EXTENDED_RACK: [Name; PARTIES as usize] =
+    [Name::plain(5), Name::extended(6, 1), Name::extended(6, 2)];
+
 /// What tells one party's state from another's, with the bus around it.
 #[derive(Clone, Copy, PartialEq, Eq, Hash)]
 struct PartyKind {
     flags: [bool; 3],
+    mark: Option<Mark>,
     control: Control,
     source: Source,
     acceptor: Acceptor,
@@ -37,6 +51,7 @@ fn kind(bus: &Bus, place: usize, lines: u8) -> PartyKind {
     let party = &bus.parties[place];
     PartyKind {
         flags: [party.talk, party.listen, party.poll_mode],
+        mark: party.mark,
         control: party.control,
         source: party.source,
         acceptor: party.acceptor,
@@ -52,8 +67,8 @@ fn kind(bus: &Bus, place: usize, lines: u8) -> PartyKind {
     }
 }
 
-/// Calls that lead from one kind of state to another.
-fn single_calls() -> Vec<Record> {
+/// Calls that lead from one kind of state to another, on three parties.
+pub fn single_calls() -> Vec<Record> {
     let mut calls = Vec::new();
     for party in 0..PARTIES {
         for operation in [STEP, READ, TAKE, STANDBY, CLEAR, RESET, DROP] {
@@ -67,16 +82,6 @@ fn single_calls() -> Vec<Record> {
         }
     }
     calls
-}
-
-/// Commands that the search sends as one move: addresses, UNL, UNT, SPE, SPD, TCT.
-fn commands() -> Vec<u8> {
-    let mut commands = vec![0x3F, 0x5F, 0x18, 0x19, 0x09];
-    for address in FIRST_ADDRESS..FIRST_ADDRESS + PARTIES {
-        commands.push(0x20 + address);
-        commands.push(0x40 + address);
-    }
-    commands
 }
 
 /// Enters the kinds of all parties; true if one was new.
@@ -104,26 +109,36 @@ fn reached(state: &Composer, calls: &[Record], commands: &[u8]) -> Vec<Composer>
     reached
 }
 
-/// One prefix for every kind of party state that the search comes upon, fewest moves first.
-/// The search goes on from kinds told apart by all lines; those tested, by ATN and DAV.
-pub fn prefixes() -> Vec<Vec<Record>> {
-    let (calls, commands) = (single_calls(), commands());
-    let mut start = Composer::new();
-    start.call(BUILD, 0, PARTIES, FIRST_ADDRESS);
-    let (mut searched, mut tested) = (HashSet::new(), HashSet::new());
+/// One prefix for every new kind of party state that the search from this bus comes upon, fewest
+/// moves first. It goes on from kinds told apart by all lines; those tested, by ATN and DAV.
+fn search(start: Composer, commands: &[u8], tested: &mut HashSet<PartyKind>) -> Vec<Vec<Record>> {
+    let calls = single_calls();
+    let mut searched = HashSet::new();
     let mut queue = VecDeque::from([start]);
     let mut found = Vec::new();
     while let Some(state) = queue.pop_front() {
-        if enter(&mut tested, &state.bus, ATN | DAV) {
+        if enter(tested, &state.bus, ATN | DAV) {
             found.push(state.records.clone());
         }
-        for next in reached(&state, &calls, &commands) {
+        for next in reached(&state, &calls, commands) {
             let short = next.records.len() <= LONGEST_PREFIX;
             if short && enter(&mut searched, &next.bus, u8::MAX) {
                 queue.push_back(next);
             }
         }
     }
+    found
+}
+
+/// From a rack without secondaries, then what is new on one with some.
+pub fn prefixes() -> Vec<Vec<Record>> {
+    let mut plain = Composer::new();
+    plain.call(BUILD, 0, PARTIES, FIRST_ADDRESS);
+    let mut extended = Composer::new();
+    extended.build(&EXTENDED_RACK, 0);
+    let mut tested = HashSet::new();
+    let mut found = search(plain, COMMANDS, &mut tested);
+    found.extend(search(extended, EXTENDED_COMMANDS, &mut tested));
     found
 }
 
@@ -158,12 +173,17 @@ fn all_calls() -> Vec<Record> {
     calls
 }
 
-const BUILDS: [Record; 4] = [
-    script::record(BUILD, 1, 2, 29),
-    script::record(BUILD, 0, 0, 5),
-    script::record(BUILD, 0, 2, 30),
-    script::record(BUILD, 2, 2, 5),
-];
+fn builds() -> Vec<Vec<Record>> {
+    let equal = [Name::extended(6, 1), Name::extended(6, 1)];
+    vec![
+        vec![script::record(BUILD, 1, 2, 29)],
+        vec![script::record(BUILD, 0, 0, 5)],
+        vec![script::record(BUILD, 0, 2, 30)],
+        vec![script::record(BUILD, 2, 2, 5)],
+        list::build(&EXTENDED_RACK[1..], 1),
+        list::build(&equal, 0),
+    ]
+}
 
 /// Refused calls change nothing, so they go into one list; each accepted one has its own.
 fn one_kind(
@@ -172,15 +192,13 @@ fn one_kind(
     prefix: &[Record],
     calls: &[Record],
 ) -> Result<(), Finding> {
-    let mut bus = Bus::new();
-    for record in prefix {
-        script::run_record(&mut bus, *record);
-    }
-    let accepted = |call: &Record| list::enter(&mut bus.clone(), *call).accepted();
+    let bus = list::bus_after(&prefix.concat());
+    let accepted = |call: &Record| list::enter(&mut bus.clone(), &Piece::of(call)).accepted();
     let (good, refused): (Vec<Record>, Vec<Record>) = calls.iter().partition(|c| accepted(c));
     comparison.list(guided.go_on(&[prefix, &refused].concat(), TAIL))?;
-    for call in good.iter().chain(&BUILDS) {
-        comparison.list(guided.go_on(&[prefix, &[*call]].concat(), TAIL))?;
+    let alone = good.iter().map(|call| vec![*call]);
+    for calls in alone.chain(builds()) {
+        comparison.list(guided.go_on(&[prefix, &calls].concat(), TAIL))?;
     }
     Ok(())
 }

@@ -1,6 +1,7 @@
 //! How often each refusal and each event came.
 
 use crate::bound::Tried;
+use crate::marks::Marks;
 use crate::model::{Answer, Event, Refusal, Turns};
 
 #[derive(Clone, Default, Debug)]
@@ -15,9 +16,10 @@ pub struct Tally {
     pub runs: [u64; 2],
     pub turns: u64,
     pub bound: Tried,
+    pub marks: Marks,
 }
 
-/// Fewer starts would say little of the bound.
+/// Fewer starts would say little of the bound, on racks without secondaries or with some.
 const LEAST_STARTS: u64 = 10_000;
 
 const LOSSES: [&str; 3] = ["dropped 1", "dropped 2", "broken 1"];
@@ -52,10 +54,16 @@ impl Tally {
         let events = self.events.iter().zip(Event::WORDS);
         let losses = self.losses.iter().zip(LOSSES);
         let runs = self.runs.iter().zip(["runs", "refused runs"]);
-        let all = refusals.chain(events).chain(losses).chain(runs);
+        let marks = self.marks.counts.iter().zip(Marks::WORDS);
+        let all = refusals
+            .chain(events)
+            .chain(losses)
+            .chain(runs)
+            .chain(marks);
         let never = all.filter(|(count, _)| **count == 0).map(|(_, word)| word);
-        let few = self.bound.starts < LEAST_STARTS;
-        never.chain(few.then_some("starts of the bound")).collect()
+        let starts = self.bound.starts.iter().zip(Tried::WORDS);
+        let few = starts.filter(|(count, _)| **count < LEAST_STARTS);
+        never.chain(few.map(|(_, word)| word)).collect()
     }
 
     pub fn print(&self) {
@@ -75,5 +83,8 @@ impl Tally {
             self.turns
         );
         println!("{}", self.bound.words());
+        for (word, count) in Marks::WORDS.iter().zip(&self.marks.counts) {
+            println!("    {word:<30} {count:>12}");
+        }
     }
 }

@@ -3,10 +3,10 @@
 use crate::bound::Start;
 use crate::compare::Difference;
 use crate::ledger::Ledger;
-use crate::list;
-use crate::model::{Answer, Bus, Refusal};
-use crate::script::{self, Record, RECORD, STEP};
-use crate::subject::Subject;
+use crate::list::{self, Piece};
+use crate::model::{Answer, Bus, Name, Refusal};
+use crate::script::{self, Record, BUILD, STEP};
+use crate::subject::{self, Subject};
 use crate::tally::Tally;
 
 type Done = Result<(), Difference>;
@@ -16,7 +16,7 @@ struct Walk<'a> {
     ledger: Ledger,
     subject: &'a mut dyn Subject,
     tally: &'a mut Tally,
-    /// The record or run that is compared, from 1.
+    /// The piece of the list that is compared, from 1.
     number: usize,
 }
 
@@ -27,10 +27,15 @@ impl Walk<'_> {
         entered.map_err(|rule| Difference::Ledger { number, rule })
     }
 
-    /// One record, whose answer by the subject is known.
-    fn agree(&mut self, record: Record, subject: Answer) -> Done {
+    /// One call, whose answer by the subject is known; the books read it as a record.
+    fn agree(
+        &mut self,
+        as_record: Record,
+        subject: Answer,
+        call: impl FnOnce(&mut Bus) -> Answer,
+    ) -> Done {
         let before = self.bus;
-        let model = script::run_record(&mut self.bus, record);
+        let model = call(&mut self.bus);
         if subject != model {
             let number = self.number;
             return Err(Difference::Answer {
@@ -40,7 +45,38 @@ impl Walk<'_> {
             });
         }
         self.tally.count(&model);
-        self.enter(&before, record, &model)
+        let marks = &mut self.tally.marks;
+        marks.enter(&before, as_record, &model, &self.bus);
+        self.enter(&before, as_record, &model)
+    }
+
+    fn record(&mut self, record: Record) -> Done {
+        let subject = self.subject.record(record);
+        self.agree(record, subject, |bus| script::run_record(bus, record))?;
+        if record[2] == BUILD {
+            self.agree_on_names()?;
+        }
+        Ok(())
+    }
+
+    fn build(&mut self, names: &[Name], system: u8) -> Done {
+        let as_record = list::build_of_named(system);
+        let subject = self.subject.build_extended(names, system);
+        self.agree(as_record, subject, |bus| bus.build_extended(names, system))?;
+        self.agree_on_names()
+    }
+
+    fn agree_on_names(&self) -> Done {
+        let number = self.number;
+        match subject::other_name(&self.bus, self.subject) {
+            None => Ok(()),
+            Some((party, model, subject)) => Err(Difference::Name {
+                number,
+                party,
+                model,
+                subject,
+            }),
+        }
     }
 
     /// In the list a run stands for its steps, so each is compared and entered as a call.
@@ -51,13 +87,15 @@ impl Walk<'_> {
         let order: Vec<u8> = before.order_of(turns).collect();
         let (answers, same) = self.subject.try_run(turns, &order);
         for (party, answer) in order.into_iter().zip(answers) {
-            self.agree(script::record(STEP, party, 0, 0), answer)?;
+            let record = script::record(STEP, party, 0, 0);
+            self.agree(record, answer, |bus| bus.step(party))?;
         }
         if model.refusal != Refusal::Accepted {
             self.enter(&before, list::run(turns), &Answer::refused(model.refusal))?;
         }
         let subject = self.subject.give_turns(turns);
         self.tally.count_run(&model);
+        self.tally.marks.enter_run(&before);
         match (model == subject, same) {
             (true, true) => Ok(()),
             (true, false) => Err(Difference::Bus { number }),
@@ -93,18 +131,21 @@ impl Walk<'_> {
     }
 
     /// True if the list goes on after this piece.
-    fn piece(&mut self, piece: &[u8]) -> Result<bool, Difference> {
-        if let Some(turns) = list::turns_of(piece) {
-            self.run(turns)?;
-        } else if let Ok(record) = Record::try_from(piece) {
-            let answer = self.subject.record(record);
-            self.agree(record, answer)?;
-            if answer.refusal == Refusal::Record {
+    fn piece(&mut self, piece: &Piece) -> Result<bool, Difference> {
+        match piece {
+            Piece::Run(turns) => self.run(*turns)?,
+            Piece::Name(_) => return Ok(true),
+            Piece::Build(names, system) => self.build(names, *system)?,
+            Piece::Record(record) => {
+                self.record(*record)?;
+                if !script::has_mark(record) {
+                    return Ok(false);
+                }
+            }
+            Piece::Tail => {
+                self.tally.count(&Answer::refused(Refusal::Record));
                 return Ok(false);
             }
-        } else {
-            self.tally.count(&Answer::refused(Refusal::Record));
-            return Ok(false);
         }
         self.try_bound()?;
         Ok(true)
@@ -121,11 +162,12 @@ pub fn compare_calls(subject: &mut dyn Subject, list: &[u8], tally: &mut Tally) 
         tally,
         number: 0,
     };
-    for piece in list.chunks(RECORD) {
+    for piece in list::pieces(list) {
         walk.number += 1;
-        if !walk.piece(piece)? {
-            break;
+        if !walk.piece(&piece)? {
+            return Ok(());
         }
     }
-    Ok(())
+    // No call gives a party another name.
+    walk.agree_on_names()
 }

@@ -1,8 +1,8 @@
 //! Records and answers in words, for reports.
 
-use crate::list;
-use crate::model::{Answer, Refusal};
-use crate::script::{self, Call, Record, MARK};
+use crate::list::Piece;
+use crate::model::{Answer, Name, Refusal};
+use crate::script::{self, Call};
 
 fn switch(value: u8) -> String {
     match value {
@@ -31,18 +31,26 @@ pub fn call([operation, party, value, extra]: Call) -> String {
     }
 }
 
-/// One piece of a list: a run, a record, a record with a wrong mark, or a short tail.
+/// As primary/secondary, or the primary alone.
+pub fn name(name: Name) -> String {
+    let secondary = name.secondary.map(|own| format!("/{own}"));
+    format!("{}{}", name.primary, secondary.unwrap_or_default())
+}
+
+/// One piece of a list.
 pub fn piece(bytes: &[u8]) -> String {
-    if let Some(turns) = list::turns_of(bytes) {
-        return format!("run of {turns} turns");
-    }
-    match Record::try_from(bytes) {
-        Ok([mark, second, ..]) if [mark, second] != MARK => "wrong mark".to_string(),
-        Ok([_, _, script::BUILD, system, count, first]) => {
+    match Piece::of(bytes) {
+        Piece::Run(turns) => format!("run of {turns} turns"),
+        Piece::Name(party) => format!("a party named {}", name(party)),
+        Piece::Build(_, system) => format!("build of those named, system party {system}"),
+        Piece::Record(record) if !script::has_mark(&record) => "wrong mark".to_string(),
+        Piece::Record([_, _, script::BUILD, system, count, first]) => {
             format!("build {count} parties from address {first}, system party {system}")
         }
-        Ok([_, _, operation, party, value, extra]) => call([operation, party, value, extra]),
-        Err(_) => format!("short tail of {} bytes", bytes.len()),
+        Piece::Record([_, _, operation, party, value, extra]) => {
+            call([operation, party, value, extra])
+        }
+        Piece::Tail => format!("short tail of {} bytes", bytes.len()),
     }
 }
 

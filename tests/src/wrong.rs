@@ -1,20 +1,26 @@
 //! Machines with one mistake each, for testing the tests.
 
+mod builds;
 mod faults;
 mod noacc;
 mod runs;
+mod secondaries;
 
+pub use builds::{BuildFault, BUILD_FAULTS};
 pub use faults::{Fault, FAULTS};
 pub use runs::{RunFault, WrongRun, RUN_FAULTS};
+pub use secondaries::SECONDARY_FAULTS;
 
-use crate::model::{Answer, Bus, Turns};
+use crate::list;
+use crate::model::{Answer, Bus, Name, Turns};
 use crate::script::{self, Call, Record, STEP};
 use crate::subject::{try_run_by, Subject};
 
-/// The model, whose bus and answer a fault alters after each call.
+/// The model, whose bus and answer a fault alters after each call, or whose build is wrong.
 pub struct Wrong {
     pub bus: Bus,
     fault: Fault,
+    build: BuildFault,
 }
 
 impl Wrong {
@@ -22,12 +28,23 @@ impl Wrong {
         Wrong {
             bus: Bus::new(),
             fault,
+            build: Bus::build_extended,
+        }
+    }
+
+    /// Every call is right but a build with secondaries.
+    pub fn building(build: BuildFault) -> Wrong {
+        Wrong {
+            bus: Bus::new(),
+            fault: |_, _, _, _| {},
+            build,
         }
     }
 
     /// The machine with the fault of that name.
     pub fn named(name: &str) -> Wrong {
-        let found = FAULTS.iter().find(|(known, _)| *known == name);
+        let mut faults = FAULTS.iter().chain(SECONDARY_FAULTS);
+        let found = faults.find(|(known, _)| *known == name);
         Wrong::new(found.expect("a known fault").1)
     }
 }
@@ -71,6 +88,17 @@ impl Subject for Wrong {
 
     fn build(&mut self, addresses: &[u8], system: u8) -> Answer {
         self.bus.build(addresses, system)
+    }
+
+    fn build_extended(&mut self, names: &[Name], system: u8) -> Answer {
+        let (build, record) = (self.build, list::build_of_named(system));
+        faulty(&mut self.bus, self.fault, record, |bus| {
+            build(bus, names, system)
+        })
+    }
+
+    fn name(&self, party: u8) -> Option<Name> {
+        self.bus.name(party)
     }
 
     fn call(&mut self, call: Call) -> Answer {

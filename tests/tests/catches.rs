@@ -2,27 +2,14 @@
 
 mod common;
 
-use common::{first_finding, records};
+use common::{first_finding, ledger_says, records};
 use meskvorn_tests::compare::{Comparison, Difference};
 use meskvorn_tests::guided::Guided;
-use meskvorn_tests::ledger::Ledger;
-use meskvorn_tests::list;
-use meskvorn_tests::model::{Answer, Turns};
-use meskvorn_tests::script::{Call, Record, LINES, RECORD};
+use meskvorn_tests::model::{Answer, Name, Turns};
+use meskvorn_tests::script::{Call, LINES, RECORD};
 use meskvorn_tests::subject::{ModelSubject, Subject};
 use meskvorn_tests::wrong::{Wrong, FAULTS};
 use meskvorn_tests::{builds, edges, run, systematic};
-
-/// Runs the wrong machine alone; the rule of demand 3 that it breaks, if the ledger sees one.
-fn ledger_says(fault: &str, records: &[Record]) -> Option<&'static str> {
-    let mut machine = Wrong::named(fault);
-    let mut ledger = Ledger::new();
-    records.iter().find_map(|record| {
-        let before = machine.bus;
-        let answer = machine.record(*record);
-        ledger.enter(&before, *record, &answer, &machine.bus).err()
-    })
-}
 
 /// A talker at 0; listeners at 1 and 2 that are ready, or the first alone; byte 41 stands.
 const ONE_LISTENER: &str = "00000305 06000100 05010100 02004101 01000000 01010000 01000000";
@@ -32,21 +19,24 @@ const TWO_LISTENERS: &str =
 #[test]
 fn ledger_catches_the_joiner() {
     let calls = format!("{ONE_LISTENER} 05020100 01020000 01020000");
-    let rule = ledger_says("joiner in ANRS under DAV", &records(&calls));
+    let rule = ledger_says("joiner in ANRS under DAV", &records(&calls).concat());
     assert_eq!(rule, Some("a byte was taken by a party that was not ready"));
 }
 
 #[test]
 fn ledger_catches_the_early_end() {
     let calls = format!("{TWO_LISTENERS} 01010000 01010000 01000000");
-    let rule = ledger_says("ended when the first listener lets go", &records(&calls));
+    let rule = ledger_says(
+        "ended when the first listener lets go",
+        &records(&calls).concat(),
+    );
     assert_eq!(rule, Some("a byte ended that a ready party had not taken"));
 }
 
 #[test]
 fn ledger_catches_the_broken_byte_put_again() {
     let calls = format!("{TWO_LISTENERS} 06000000");
-    let rule = ledger_says("broken byte put again", &records(&calls));
+    let rule = ledger_says("broken byte put again", &records(&calls).concat());
     assert_eq!(rule, Some("accepted writes are not puts + dropped + held"));
 }
 
@@ -54,32 +44,30 @@ fn ledger_catches_the_broken_byte_put_again() {
 fn ledger_catches_tct_acted_on_when_heard() {
     let calls = "00000205 09000000 02004600 01000000 01010000 01000000 01010000 01010000 01000000
         02000900 01000000 01010000 01010000 01000000 01010000";
-    let rule = ledger_says("TCT acted on when heard", &records(calls));
+    let rule = ledger_says("TCT acted on when heard", &records(calls).concat());
     assert_eq!(rule, Some("two parties drive ATN"));
 }
 
 #[test]
 fn ledger_catches_a_second_taking() {
     let calls = format!("{ONE_LISTENER} 01010000 01010000 01010000");
-    let rule = ledger_says("a listener takes twice", &records(&calls));
+    let rule = ledger_says("a listener takes twice", &records(&calls).concat());
     assert_eq!(rule, Some("a byte was taken twice by one party"));
 }
 
 #[test]
 fn ledger_catches_a_lost_end() {
     let calls = format!("{ONE_LISTENER} 01010000");
-    let rule = ledger_says("END lost in taking", &records(&calls));
+    let rule = ledger_says("END lost in taking", &records(&calls).concat());
     assert_eq!(rule, Some("the END taken is not the END put up"));
 }
 
 #[test]
 fn ledger_catches_made_up_counts() {
-    let rule = ledger_says(
-        "dropped counted twice",
-        &records("00000205 02004100 0b000000"),
-    );
+    let drops = records("00000205 02004100 0b000000").concat();
+    let rule = ledger_says("dropped counted twice", &drops);
     assert_eq!(rule, Some("accepted writes are not puts + dropped + held"));
-    let rule = ledger_says("broken made up", &records("00000205 0a000000"));
+    let rule = ledger_says("broken made up", &records("00000205 0a000000").concat());
     assert_eq!(rule, Some("a byte was broken off while none stood"));
 }
 
@@ -87,14 +75,7 @@ fn ledger_catches_made_up_counts() {
 fn ledger_catches_each_named_mistake_by_chance_too() {
     for (name, _) in &FAULTS[..4] {
         let mut guided = Guided::new(1);
-        let caught = (0..2000).any(|_| {
-            let script = list::as_script(guided.list());
-            let records: Vec<Record> = script
-                .chunks_exact(RECORD)
-                .map(|piece| piece.try_into().unwrap())
-                .collect();
-            ledger_says(name, &records).is_some()
-        });
+        let caught = (0..2000).any(|_| ledger_says(name, guided.list()).is_some());
         assert!(caught, "{name}");
     }
 }
@@ -151,6 +132,12 @@ impl Subject for WrongText {
     fn build(&mut self, addresses: &[u8], system: u8) -> Answer {
         self.0.build(addresses, system)
     }
+    fn build_extended(&mut self, names: &[Name], system: u8) -> Answer {
+        self.0.build_extended(names, system)
+    }
+    fn name(&self, party: u8) -> Option<Name> {
+        self.0.name(party)
+    }
     fn call(&mut self, call: Call) -> Answer {
         self.0.call(call)
     }
@@ -193,6 +180,12 @@ impl Subject for WrongByNumber {
     fn build(&mut self, addresses: &[u8], system: u8) -> Answer {
         let (addresses, system) = (self.build)(addresses, system);
         self.model.build(&addresses, system)
+    }
+    fn build_extended(&mut self, names: &[Name], system: u8) -> Answer {
+        self.model.build_extended(names, system)
+    }
+    fn name(&self, party: u8) -> Option<Name> {
+        self.model.name(party)
     }
     fn call(&mut self, call: Call) -> Answer {
         self.model.call((self.call)(call))

@@ -11,17 +11,9 @@ use meskvorn_tests::subject::ModelSubject;
 use meskvorn_tests::tally::Tally;
 use meskvorn_tests::wrong::{RunFault, Wrong, WrongRun, FAULTS, RUN_FAULTS};
 
-/// Addresses rise with the places in every list of records, so only builds from address lists can
-/// tell this one.
-const BY_ADDRESS: &str = "ties to the lowest address";
-
-fn by_places() -> impl Iterator<Item = &'static (&'static str, RunFault)> {
-    RUN_FAULTS.iter().filter(|(name, _)| *name != BY_ADDRESS)
-}
-
 #[test]
 fn comparison_catches_every_wrong_run_by_a_short_list() {
-    for (name, fault) in by_places() {
+    for (name, fault) in RUN_FAULTS {
         let finding = first_finding(&mut WrongRun::new(*fault), 300_000);
         let finding = finding.unwrap_or_else(|| panic!("not caught: {name}"));
         let pieces = finding.list.len() / RECORD;
@@ -35,11 +27,9 @@ fn comparison_catches_every_wrong_run_by_a_short_list() {
 }
 
 #[test]
-fn builds_from_address_lists_catch_ties_by_address() {
-    let (_, fault) = RUN_FAULTS
-        .iter()
-        .find(|(name, _)| *name == BY_ADDRESS)
-        .unwrap();
+fn builds_catch_ties_by_address() {
+    let by_address = |(name, _): &&(&str, RunFault)| *name == "ties to the lowest address";
+    let (_, fault) = RUN_FAULTS.iter().find(by_address).unwrap();
     assert!(builds::run(&mut WrongRun::new(*fault), 5).is_err());
 }
 
@@ -63,10 +53,10 @@ fn a_run_counts_as_its_steps() {
     } = comparison.tally;
     assert_eq!((records, runs, turns), (12, [1, 0], 7));
     // The bus before the run is a start of the bound, and needs these seven turns.
-    assert_eq!((bound.starts, bound.closest), (1, (7, 2)));
+    assert_eq!((bound.starts, bound.closest), ([1, 0], (7, 2)));
     let steps = "01000000 01010000 01000000 01010000 01000000 01010000 01000000";
     let script = records_of(&[OFFERED, steps, "03010000"]);
-    assert_eq!(list::as_script(&list.concat()), script);
+    assert_eq!(list::as_script(&list.concat()), Some(script.into()));
 }
 
 fn records_of(parts: &[&str]) -> Vec<u8> {
@@ -81,7 +71,8 @@ fn a_refused_run_is_no_step() {
     comparison.list(&list.concat()).unwrap();
     assert_eq!(comparison.tally.runs, [1, 1]);
     assert_eq!(comparison.tally.records, 1);
-    assert_eq!(list::as_script(&list.concat()), records_of(&["00000205"]));
+    let script = records_of(&["00000205"]);
+    assert_eq!(list::as_script(&list.concat()), Some(script.into()));
 }
 
 /// Party 1 joins while party 0 waits with its byte, so that no start of the bound comes before the

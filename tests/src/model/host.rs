@@ -1,7 +1,7 @@
 //! Build and the host's calls. Every argument is taken as it comes.
 
-use super::{Acceptor, Answer, Bus, Control, Data, Event, Refusal};
-use super::{ATN, DAV, MOST_ADDRESS, MOST_PARTIES};
+use super::name::build_is_good;
+use super::{Acceptor, Answer, Bus, Control, Data, Event, Name, Refusal, ATN, DAV};
 
 /// A switch or an END: 0 or 1.
 fn switch(value: u8) -> Result<bool, Answer> {
@@ -20,29 +20,32 @@ fn refuse_if(condition: bool, refusal: Refusal) -> Result<(), Answer> {
     }
 }
 
-fn build_is_good(addresses: &[u8], system: u8) -> bool {
-    let count = addresses.len();
-    if count == 0 || count > MOST_PARTIES || usize::from(system) >= count {
-        return false;
-    }
-    addresses
-        .iter()
-        .enumerate()
-        .all(|(place, address)| *address <= MOST_ADDRESS && !addresses[..place].contains(address))
-}
-
 impl Bus {
+    /// Parties without secondaries.
     pub fn build(&mut self, addresses: &[u8], system: u8) -> Answer {
+        let names: Vec<Name> = addresses.iter().copied().map(Name::plain).collect();
+        self.build_extended(&names, system)
+    }
+
+    /// Parties of both sorts.
+    pub fn build_extended(&mut self, names: &[Name], system: u8) -> Answer {
         *self = Bus::new();
-        if !build_is_good(addresses, system) {
+        if !build_is_good(names, system) {
             return Answer::refused(Refusal::BadBuild);
         }
-        self.count = addresses.len();
+        self.count = names.len();
         self.system = usize::from(system);
-        for (party, address) in self.parties.iter_mut().zip(addresses) {
-            party.address = *address;
+        for (party, name) in self.parties.iter_mut().zip(names) {
+            party.name = *name;
         }
         Answer::NOTHING
+    }
+
+    /// What a build named the party, if there is one.
+    pub fn name(&self, party: u8) -> Option<Name> {
+        self.present()
+            .get(usize::from(party))
+            .map(|party| party.name)
     }
 
     /// Runs a call's own part, then settles unless it was refused.

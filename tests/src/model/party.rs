@@ -1,6 +1,7 @@
 //! One party: its flags, its states, and what it does when it hears a command.
 
 use super::answer::Event;
+use super::name::Name;
 
 #[derive(Clone, Copy, PartialEq, Eq, Hash, Debug)]
 pub enum Control {
@@ -33,6 +34,13 @@ pub enum Service {
     Aprs,
 }
 
+/// The own primary address that a party with a secondary has heard, while a secondary may follow.
+#[derive(Clone, Copy, PartialEq, Eq, Hash, Debug)]
+pub enum Mark {
+    TalkPrimary,
+    ListenPrimary,
+}
+
 /// A byte with its END.
 #[derive(Clone, Copy, PartialEq, Eq, Hash, Debug)]
 pub struct Data {
@@ -61,7 +69,9 @@ pub const TCT: u8 = 0x09;
 
 #[derive(Clone, Copy, PartialEq, Eq, Hash, Debug)]
 pub struct Party {
-    pub address: u8,
+    pub name: Name,
+    /// None for a party without a secondary.
+    pub mark: Option<Mark>,
     pub talk: bool,
     pub listen: bool,
     pub poll_mode: bool,
@@ -77,7 +87,8 @@ pub struct Party {
 
 impl Party {
     pub const IDLE: Party = Party {
-        address: 0,
+        name: Name::plain(0),
+        mark: None,
         talk: false,
         listen: false,
         poll_mode: false,
@@ -132,29 +143,31 @@ impl Party {
         }
     }
 
+    /// Talk, listen and poll mode off, and no mark.
     pub fn flags_off(&mut self) {
         self.talk = false;
         self.listen = false;
         self.poll_mode = false;
+        self.mark = None;
     }
 
     /// Acts on a command; the event is heard, clear or trigger.
     pub fn hear(&mut self, byte: u8) -> Event {
-        let low = byte & 0x7F;
-        match low {
-            0x20..=0x3E if low - 0x20 == self.address => {
-                self.listen = true;
-                self.talk = false;
-            }
+        match byte & 0x7F {
+            code @ 0x00..=0x5F => return self.hear_primary(code),
+            0x7F => {}
+            code => self.hear_secondary(code - 0x60),
+        }
+        Event::Heard
+    }
+
+    fn hear_primary(&mut self, code: u8) -> Event {
+        self.mark = None;
+        match code {
+            0x20..=0x3E if code - 0x20 == self.name.primary => self.hear_own(Mark::ListenPrimary),
             0x3F => self.listen = false,
-            0x40..=0x5E => {
-                let own = low - 0x40 == self.address;
-                self.talk = own;
-                if own {
-                    self.listen = false;
-                }
-            }
-            0x5F => self.talk = false,
+            0x40..=0x5E if code - 0x40 == self.name.primary => self.hear_own(Mark::TalkPrimary),
+            0x40..=0x5F => self.talk = false,
             0x18 => self.poll_mode = true,
             0x19 => self.poll_mode = false,
             0x14 => return Event::Clear,
@@ -163,6 +176,30 @@ impl Party {
             _ => {}
         }
         Event::Heard
+    }
+
+    /// The own primary address: the whole of it, or the half before a secondary.
+    fn hear_own(&mut self, primary: Mark) {
+        if self.name.secondary.is_some() {
+            self.mark = Some(primary);
+        } else {
+            self.be_addressed(primary);
+        }
+    }
+
+    /// The mark stays, so that another secondary may follow this one.
+    fn hear_secondary(&mut self, secondary: u8) {
+        match self.mark {
+            Some(primary) if self.name.secondary == Some(secondary) => self.be_addressed(primary),
+            Some(Mark::TalkPrimary) => self.talk = false,
+            _ => {}
+        }
+    }
+
+    /// A talker stops listening, and a listener stops talking.
+    fn be_addressed(&mut self, primary: Mark) {
+        self.talk = primary == Mark::TalkPrimary;
+        self.listen = primary == Mark::ListenPrimary;
     }
 
     /// Live follows saved outside a poll, then at most one change of service.

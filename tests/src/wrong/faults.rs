@@ -286,7 +286,7 @@ fn build_keeps_bus(bus: &mut Bus, before: &Bus, _: Record, answer: &mut Answer) 
 }
 
 fn address_30_refused(bus: &mut Bus, _: &Bus, call: Record, answer: &mut Answer) {
-    if is(call, answer, BUILD) && bus.present().iter().any(|party| party.address == 30) {
+    if is(call, answer, BUILD) && bus.present().iter().any(|party| party.name.primary == 30) {
         *bus = Bus::new();
         *answer = Answer::refused(Refusal::BadBuild);
     }
@@ -304,7 +304,7 @@ fn nobody_talks_kept(bus: &mut Bus, before: &Bus, call: Record, answer: &mut Ans
     let nobody = before
         .present()
         .iter()
-        .all(|party| party.address != address);
+        .all(|party| party.name.primary != address);
     if answer.event == Event::Heard && address < 31 && nobody {
         actor(bus, call).talk = was(before, call).talk;
     }

@@ -32,7 +32,7 @@ pub fn goes_back(bus: &mut Bus, _: &Bus, call: Record, answer: &mut Answer) {
 }
 
 pub fn status_goes_back(bus: &mut Bus, before: &Bus, call: Record, answer: &mut Answer) {
-    if was(before, call).is_polled(before.atn()) {
+    if answer.event == Event::Noacc && was(before, call).is_polled(before.atn()) {
         goes_back(bus, before, call, answer);
     }
 }

@@ -1,6 +1,6 @@
 //! Runs with one mistake each; every single call is right.
 
-use crate::model::{Answer, Bus, Event, Refusal, Turns, Waiting, MOST_PARTIES};
+use crate::model::{Answer, Bus, Event, Name, Refusal, Turns, Waiting, MOST_PARTIES};
 use crate::script::{self, Call};
 use crate::subject::{try_run_by, Subject};
 
@@ -48,7 +48,7 @@ fn highest_first(bus: &mut Bus, turns: u16, _: &mut usize) -> Turns {
 
 fn lowest_address_first(bus: &mut Bus, turns: u16, _: &mut usize) -> Turns {
     let mut places: Vec<usize> = (0..bus.count).collect();
-    places.sort_by_key(|&place| bus.parties[place].address);
+    places.sort_by_key(|&place| bus.parties[place].name.primary);
     renamed(bus, turns, |place| places[place])
 }
 
@@ -134,6 +134,14 @@ impl Subject for WrongRun {
 
     fn build(&mut self, addresses: &[u8], system: u8) -> Answer {
         self.bus.build(addresses, system)
+    }
+
+    fn build_extended(&mut self, names: &[Name], system: u8) -> Answer {
+        self.bus.build_extended(names, system)
+    }
+
+    fn name(&self, party: u8) -> Option<Name> {
+        self.bus.name(party)
     }
 
     fn call(&mut self, call: Call) -> Answer {

@@ -4,8 +4,11 @@
 use meskvorn_tests::compare::{Comparison, Finding};
 use meskvorn_tests::edges;
 use meskvorn_tests::guided::Guided;
+use meskvorn_tests::ledger::Ledger;
+use meskvorn_tests::list::{self, Piece};
 use meskvorn_tests::script::{self, Record, MARK};
 use meskvorn_tests::subject::Subject;
+use meskvorn_tests::wrong::Wrong;
 
 /// Records from words of eight digits: operation, party, value, extra.
 #[allow(dead_code)]
@@ -57,4 +60,24 @@ pub fn first_finding(subject: &mut dyn Subject, records: u64) -> Option<Finding>
         }
     }
     edges::run(&mut comparison, 2).err()
+}
+
+/// Runs the wrong machine alone, runs left out; the rule of demand 3 that it breaks, if the ledger
+/// sees one.
+#[allow(dead_code)]
+pub fn ledger_says(fault: &str, list: &[u8]) -> Option<&'static str> {
+    let mut machine = Wrong::named(fault);
+    let mut ledger = Ledger::new();
+    list::pieces(list).find_map(|piece| {
+        let before = machine.bus;
+        let (record, answer) = match piece {
+            Piece::Record(record) => (record, machine.record(record)),
+            Piece::Build(names, system) => {
+                let answer = machine.build_extended(&names, system);
+                (list::build_of_named(system), answer)
+            }
+            _ => return None,
+        };
+        ledger.enter(&before, record, &answer, &machine.bus).err()
+    })
 }
