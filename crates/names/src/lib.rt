@@ -51,7 +51,7 @@ impl Secondary {
     {
         match self {
             Secondary::Absent => false,
-            Secondary::Given(t) => s.0 == t.0,
+            Secondary::Given(own) => s.0 == own.0,
         }
     }
 }
