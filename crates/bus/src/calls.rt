@@ -5,8 +5,8 @@ use crate::Answer;
 use crate::Bus;
 use accepted::effect_of;
 use effect::Call;
-use parties::every::scan;
 use parties::every::slot;
+use parties::sweeping::sweep;
 use party::Place;
 use refusals::is_inside;
 use refusals::judged;
@@ -21,7 +21,7 @@ impl Bus {
         let ps = self.parties;
         let st = self.standing;
         let system = self.system;
-        let s = scan(ps, self.count, at, st.has_end());
+        let s = sweep(ps, self.count).told(at, st.has_end());
         let l = s.lines;
         let talker = s.talker;
         let p = ps[at];

@@ -15,9 +15,10 @@ use parties::Change;
 use parties::every::change_all;
 use parties::every::clear_drops;
 use parties::every::party_at;
-use parties::every::scan;
 use parties::every::with_party;
 use parties::every::within_places;
+use parties::sweeping::is_on;
+use parties::sweeping::sweep;
 use party::Control;
 use party::Party;
 use party::Place;
@@ -98,9 +99,8 @@ impl Bus {
     fn attend(self, said: Said, ps: [Party; 15], st: Standing) -> Answer
         ensures { λ r. ⌜ r ≡ attend self said ps st ⌝ }
     {
-        let s = scan(ps, self.count, 0, false);
-        let l = s.lines;
-        let parties = change_all(ps, self.count, Change::Attend(l.atn));
+        let s = sweep(ps, self.count);
+        let parties = change_all(ps, self.count, Change::Attend(is_on(s.atn)));
         let system = self.system;
         let off = st.stands();
         let standing = st.unless(off);

@@ -1,22 +1,19 @@
 -- The laws of the loops over the places: one place more, and as many places as there are.
 -- Assumes nothing.
 use mathlib.Core.Path.{_≡_, refl, sym, ap, _∙_}
-use mathlib.Core.Bool.{Bool, true, false, not, cond, _&&_, _||_}
+use mathlib.Core.Bool.{Bool, true, false, cond, _||_}
 use mathlib.Core.List.{List, [], _∷_, map}
 use Prim.Native.Nat.{ℕ, zero, suc, _+_, _≤_, _<_}
 use native.Mathlib.Omega.{arith}
 use native.Mathlib.Numerals.{add-one}
-use native.Mathlib.Nat.{not-suc-le-zero, le-of-suc-le-suc, zero-add, add-zero, add-suc, suc-add}
+use native.Mathlib.Nat.{not-suc-le-zero, le-of-suc-le-suc}
 use lib.ListN.{length, set, length-map, length-set}
-use lib.Seq.{getD-set-same, getD-set-other}
-use lib.Dec.{ltb, eqb}
-use borrow.Author.Tests.{ltb-false, eqb-true, eqb-false}
+use lib.Dec.{ltb}
+use borrow.Author.Tests.{ltb-false}
 use Rattle.party.specs.Parts.{idle}
-use Rattle.party.specs.Driving.{isActive, drivesDav, drivesNrfd, drivesNdac, drivesSrq}
 use Rattle.role.proofs.Logic.{test}
 use Rattle.parties.specs.Types.{Party, Found, Nowhere, At}
-use Rattle.parties.specs.Places.{place, at, some, each, total, firstFrom, talks, otherTalker, within, seek}
-use Rattle.parties.specs.Lines.{linesOf, driven}
+use Rattle.parties.specs.Places.{place, at, some, each, total, firstFrom, talks, otherTalker, within}
 use Rattle.parties.proofs.Places.{each-past}
 
 -- the length of an array whose elements are structs, as a need has it
@@ -28,15 +25,6 @@ or-assoc true y z = refl
 or-assoc false y z = refl
 
 -- one place more
-pub some-suc : (n : ℕ) (f : Party → Bool) (ps : List Party) → n < length ps → some (suc n) f ps ≡ (some n f ps || f (at ps n))
-some-suc n f [] h = absurd (not-suc-le-zero h)
-some-suc zero f (p ∷ ps) h = right (f p)
-  where
-    right : (x : Bool) → (x || false) ≡ x
-    right true = refl
-    right false = refl
-some-suc (suc n) f (p ∷ ps) h = ap (λ (x : Bool). f p || x) (some-suc n f ps (le-of-suc-le-suc h)) ∙ or-assoc (f p) (some n f ps) (f (at ps n))
-
 pub each-suc : (n : ℕ) (f : Party → Party) (ps : List Party) → n < length ps → set (each n f ps) n (f (at ps n)) ≡ each (suc n) f ps
 each-suc n f [] h = absurd (not-suc-le-zero h)
 each-suc zero f (p ∷ ps) h = refl
@@ -46,16 +34,6 @@ pub total-suc : (n : ℕ) (f : Party → ℕ) (ps : List Party) → n < length p
 total-suc n f [] h = absurd (not-suc-le-zero h)
 total-suc zero f (p ∷ ps) h = omega arith
 total-suc (suc n) f (p ∷ ps) h = let r = total-suc n f ps (le-of-suc-le-suc h) in omega arith
-
-pub first-suc : (i n : ℕ) (f : Party → Bool) (ps : List Party) → n < length ps → firstFrom i (suc n) f ps ≡ seek (firstFrom i n f ps) (place (i + n)) (f (at ps n))
-first-suc i n f [] h = absurd (not-suc-le-zero h)
-first-suc i zero f (p ∷ ps) h = rw add-zero refl
-first-suc i (suc n) f (p ∷ ps) h = go (f p) (first-suc (suc i) n f ps (le-of-suc-le-suc h))
-  where
-    go : (x : Bool) → firstFrom (suc i) (suc n) f ps ≡ seek (firstFrom (suc i) n f ps) (place (suc i + n)) (f (at ps n))
-        → cond x (At (place i)) (firstFrom (suc i) (suc n) f ps) ≡ seek (cond x (At (place i)) (firstFrom (suc i) n f ps)) (place (i + suc n)) (f (at ps n))
-    go true e = refl
-    go false e = e ∙ ap (λ (m : ℕ). seek (firstFrom (suc i) n f ps) (place m) (f (at ps n))) (suc-add i n ∙ sym (add-suc i n))
 
 -- past the end of the list nothing is added
 pub some-all : (n : ℕ) (f : Party → Bool) (ps : List Party) → length ps ≤ n → some n f ps ≡ some (length ps) f ps
@@ -98,29 +76,11 @@ first-all i (suc n) f (p ∷ ps) h = ap (λ (x : Found). cond (f p) (At (place i
 pub within-same : {A : Type 0} (g : ℕ → A) (n : ℕ) → (15 ≤ n → g n ≡ g 15) → g (within n) ≡ g n
 within-same g n h = test (ltb n 15) (λ e. rw e refl) (λ e. rw e (sym (h (ltb-false n 15 e))))
 
--- the lines of one party more
-pub lines-suc : (n : ℕ) (ps : List Party) (eoi : Bool) → n < length ps → linesOf (suc n) ps eoi ≡ driven (linesOf n ps eoi) (at ps n)
-lines-suc n ps eoi h = rw (some-suc n isActive ps h, some-suc n drivesDav ps h, some-suc n drivesNrfd ps h, some-suc n drivesNdac ps h, some-suc n drivesSrq ps h) refl
-
-pub lines-all : (n : ℕ) (ps : List Party) (eoi : Bool) → length ps ≡ 15 → 15 ≤ n → linesOf n ps eoi ≡ linesOf 15 ps eoi
-lines-all n ps eoi z h = rw (go isActive, go drivesDav, go drivesNrfd, go drivesNdac, go drivesSrq) refl
-  where
-    go : (f : Party → Bool) → some n f ps ≡ some 15 f ps
-    go f = some-all n f ps (omega arith) ∙ ap (λ (m : ℕ). some m f ps) z
-
 -- a figure of all places, for lists of fifteen
 pub all-15 : {A : Type 0} (g : ℕ → A) (n : ℕ) (ps : List Party) → length ps ≡ 15 → (length ps ≤ n → g n ≡ g (length ps)) → 15 ≤ n → g n ≡ g 15
 all-15 g n ps z f h = f (omega arith) ∙ ap g z
 
--- the search for a talker other than party i, of one party more
-pub other-suc : (i n : ℕ) (ps : List Party) → n < length ps → otherTalker (suc n) i ps ≡ seek (otherTalker n i ps) (place n) (not (eqb n i) && talks (at ps n))
-other-suc i n ps h = rw (first-suc 0 n talks (set ps i idle) (rw (length-set ps i idle) h), zero-add n, beside) refl
-  where
-    beside : talks (at (set ps i idle) n) ≡ (not (eqb n i) && talks (at ps n))
-    beside = test (eqb n i)
-        (λ e. let z : n ≡ i = eqb-true n i e in rw (e, z, getD-set-same ps i idle idle (rw z at h)) refl)
-        (λ e. rw (e, getD-set-other ps i n idle idle (eqb-false n i e)) refl)
-
+-- the search for a talker other than party i
 pub other-all : (i n : ℕ) (ps : List Party) → length ps ≡ 15 → 15 ≤ n → otherTalker n i ps ≡ otherTalker 15 i ps
 other-all i n ps z h = all-15 (λ k. otherTalker k i ps) n (set ps i idle) (length-set ps i idle ∙ z) (first-all 0 n talks (set ps i idle)) h
 

@@ -63,6 +63,12 @@ at-each-all n f ps k l tail = fun-ext (λ j. go j (ltb j n) refl)
     go j true e = each-below n f ps j (ltb-true j n e) l
     go j false e = each-past n f ps j (ltb-false j n e) ∙ tail j (ltb-false j n e) ∙ sym k ∙ ap f (sym (tail j (ltb-false j n e)))
 
+-- a change of parties that it leaves as they are
+pub each-still : (n : ℕ) (f : Party → Party) (ps : List Party) → ((j : ℕ) → f (at ps j) ≡ at ps j) → each n f ps ≡ ps
+each-still zero f ps h = refl
+each-still (suc n) f [] h = refl
+each-still (suc n) f (p ∷ ps) h = rw (h 0, each-still n f ps (λ j. h (suc j))) refl
+
 -- one change after another, in two passes or in one
 pub each-each : (n : ℕ) (f g : Party → Party) (ps : List Party) → each n (λ p. f (g p)) ps ≡ each n f (each n g ps)
 each-each zero f g ps = refl

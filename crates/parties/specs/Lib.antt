@@ -2,3 +2,5 @@
 pub mod Types
 pub mod Places
 pub mod Lines
+pub mod Masks
+pub mod Sweeping

@@ -1,7 +1,7 @@
 -- The lines of the bus, and the lines answer.
 -- Assumes nothing.
 use Prim.Native.Nat.{ℕ, _+_}
-use mathlib.Core.Bool.{Bool, cond, _||_}
+use mathlib.Core.Bool.{Bool, cond}
 use mathlib.Core.List.{List}
 use Rattle.party.specs.Driving.{isActive, drivesDav, drivesNrfd, drivesNdac, drivesSrq}
 use Rattle.parties.specs.Types.{Party, Lines, Scan}
@@ -19,18 +19,7 @@ linesOf n ps eoi = record {
   srq = some n drivesSrq ps;
 }
 
--- The lines with those that one party more drives.
-abbrev pub driven : Lines → Party → Lines
-driven l p = record {
-  atn = l .atn || isActive p;
-  dav = l .dav || drivesDav p;
-  nrfd = l .nrfd || drivesNrfd p;
-  ndac = l .ndac || drivesNdac p;
-  eoi = l .eoi;
-  srq = l .srq || drivesSrq p;
-}
-
--- One pass over the first n parties, on behalf of the one at place i.
+-- What a call of the party at place i is told of the first n parties.
 abbrev pub scanOf : ℕ → ℕ → List Party → Bool → Scan
 scanOf i n ps eoi = record { lines = linesOf n ps eoi; talker = otherTalker n i ps }
 

@@ -55,17 +55,12 @@ abbrev pub isFound : Found → Bool
 isFound Nowhere = false
 isFound (At p) = true
 
--- How the code goes through the places, of which there are fifteen: which place a number is, and the first where it is none; a search
--- goes on until it has found; one change for every party.
+-- How the code goes through the places, of which there are fifteen: which place a number is, and the first where it is none; one change for every party.
 abbrev pub within : ℕ → ℕ
 within n = cond (ltb n 15) n 15
 
 abbrev pub slot : ℕ → ℕ
 slot i = cond (ltb i 15) i 0
-
-abbrev pub seek : Found → Place → Bool → Found
-seek Nowhere p hit = cond hit (At p) Nowhere
-seek (At q) p hit = At q
 
 abbrev pub changed : Change → Party → Party
 changed (Attend atn) p = settled atn (attended atn p)

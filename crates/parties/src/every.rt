@@ -1,15 +1,12 @@
 // The party at a place, and the loops over every party.
 ghost use mathlib.Core.Path.{_≡_};
-ghost use mathlib.Core.Bool.{not, _&&_, _||_};
-ghost use Prim.Native.Nat.{_+_, _≤_, _<_};
+ghost use mathlib.Core.Bool.{_||_};
+ghost use Prim.Native.Nat.{_≤_, _<_};
 ghost use lib.ListN.{set};
 ghost use Rattle.party.specs.Clearing.{clearDrops};
-ghost use Rattle.parties.specs.Places.{at, each, total, within, slot, seek, changed, isFound};
-ghost use Rattle.parties.specs.Lines.{driven, scanOf};
+ghost use Rattle.parties.specs.Places.{at, each, total, within, slot, changed, isFound};
 use crate::Change;
 use crate::Found;
-use crate::Lines;
-use crate::Scan;
 use party::Party;
 use party::Place;
 
@@ -55,41 +52,7 @@ pub fn or(a: bool, b: bool) -> bool
     if a { true } else { b }
 }
 
-impl Lines {
-    // The lines with those that one party more drives.
-    fn with(self, p: Party) -> Lines
-        ensures { λ r. ⌜ r ≡ driven self p ⌝ }
-    {
-        Lines {
-            atn: or(self.atn, p.is_active()),
-            dav: or(self.dav, p.drives_dav()),
-            nrfd: or(self.nrfd, p.drives_nrfd()),
-            ndac: or(self.ndac, p.drives_ndac()),
-            eoi: self.eoi,
-            srq: or(self.srq, p.drives_srq()),
-        }
-    }
-}
-
 impl Found {
-    // What a search for another talker has found once it has seen the party at a place, which may be one's own.
-    fn or_talker(self, p: Place, own: bool, talk: bool) -> Found
-        ensures { λ r. ⌜ r ≡ seek self p (not own && talk) ⌝ }
-    {
-        match self {
-            Found::Nowhere => {
-                if own {
-                    Found::Nowhere
-                } else if talk {
-                    Found::At(p)
-                } else {
-                    Found::Nowhere
-                }
-            }
-            Found::At(q) => Found::At(q),
-        }
-    }
-
     pub fn is_found(self) -> bool
         ensures { λ r. ⌜ r ≡ isFound self ⌝ }
     {
@@ -98,31 +61,6 @@ impl Found {
             Found::At(_) => true,
         }
     }
-}
-
-// One pass over the parties, on behalf of the one at place i.
-pub fn scan(ps: [Party; 15], count: u8, i: usize, eoi: bool) -> Scan
-    ensures { λ r. ⌜ r ≡ scanOf i count ps eoi ⌝ }
-{
-    let mut lines = Lines {
-        atn: false,
-        dav: false,
-        nrfd: false,
-        ndac: false,
-        eoi,
-        srq: false,
-    };
-    let mut talker = Found::Nowhere;
-    let n = within_places(count);
-    let mut k: usize = 0;
-    while k < n {
-        let p = ps[k];
-        let role = p.role;
-        lines = lines.with(p);
-        talker = talker.or_talker(Place((k % 256) as u8), k == i, role.talk);
-        k = k + 1;
-    }
-    Scan { lines, talker }
 }
 
 // A change of one party.

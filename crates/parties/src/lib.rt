@@ -5,6 +5,7 @@ ghost use Rattle.parties.specs.Lines.{weight, linesByte};
 use party::Place;
 
 pub mod every;
+pub mod sweeping;
 
 // The six lines of the bus, true where driven.
 pub struct Lines {
@@ -16,13 +17,43 @@ pub struct Lines {
     pub srq: bool,
 }
 
+// The parties that drive each line, as sixteen bits, one a party, party 0 lowest.
+pub struct Masks {
+    pub atn: u16,
+    pub dav: u16,
+    pub nrfd: u16,
+    pub ndac: u16,
+    pub eoi: u16,
+    pub srq: u16,
+}
+
+// How many parties drive each line.
+pub struct Counts {
+    pub atn: u32,
+    pub dav: u32,
+    pub nrfd: u32,
+    pub ndac: u32,
+    pub eoi: u32,
+    pub srq: u32,
+}
+
+// What one pass over the parties finds: who drives each line that a party's state decides, and who talks, as masks.
+pub struct Sweep {
+    pub atn: u16,
+    pub dav: u16,
+    pub nrfd: u16,
+    pub ndac: u16,
+    pub srq: u16,
+    pub talk: u16,
+}
+
 // The place of a party that was looked for.
 pub enum Found {
     Nowhere,
     At(Place),
 }
 
-// What one pass over the parties tells a call: the lines, and the first party other than its own that talks.
+// What a call is told of the parties: the lines, and the first party other than its own that talks.
 pub struct Scan {
     pub lines: Lines,
     pub talker: Found,
@@ -42,16 +73,6 @@ fn bit(on: bool, w: u8) -> u8
 }
 
 impl Lines {
-    // Nobody drives a line.
-    pub const NONE: Lines = Lines {
-        atn: false,
-        dav: false,
-        nrfd: false,
-        ndac: false,
-        eoi: false,
-        srq: false,
-    };
-
     // The lines answer.
     pub fn byte(self) -> u8
         ensures { λ r. ⌜ r ≡ linesByte self ⌝ }

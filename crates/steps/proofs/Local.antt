@@ -17,7 +17,7 @@ use Rattle.party.specs.Sending.{isSource}
 use Rattle.party.specs.Settling.{settled}
 use Rattle.role.proofs.Logic.{no, test, cond-elim}
 use Rattle.parties.specs.Places.{place, at, each, otherTalker}
-use Rattle.parties.proofs.Places.{some-set}
+use Rattle.parties.proofs.Places.{each-still, some-set}
 use Rattle.effect.specs.Effects.{does}
 use Rattle.source_step.specs.SourceStep.{sourceEffect}
 use Rattle.acceptor_step.specs.AcceptorStep.{take, acceptorStep, acceptorEffect}
@@ -35,11 +35,6 @@ use Rattle.bus.specs.Types.{Party, Acceptor, Aids, Anrs, Acrs, Acds, Awns, Line
 use Rattle.bus.specs.Types.after
 use Rattle.bus.specs.Types.ruling
 use Rattle.steps.specs.Steps.{stepOf}
-
-each-still : (n : ℕ) (f : Party → Party) (ps : List Party) → ((j : ℕ) → f (at ps j) ≡ at ps j) → each n f ps ≡ ps
-each-still zero f ps h = refl
-each-still (suc n) f [] h = refl
-each-still (suc n) f (p ∷ ps) h = rw (h 0, each-still n f ps (λ j. h (suc j))) refl
 
 each-set : (n : ℕ) (f : Party → Party) (ps : List Party) (i : ℕ) (q : Party) → i < n → ((j : ℕ) → f (at ps j) ≡ at ps j) → each n f (set ps i q) ≡ set ps i (f q)
 each-set zero f ps i q l h = absurd (not-suc-le-zero l)

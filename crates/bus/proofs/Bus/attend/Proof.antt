@@ -1,12 +1,19 @@
-use mathlib.Core.Path.{refl}
+use mathlib.Core.Path.{_≡_, refl}
+use lib.ListN.{length}
+use Rattle.party.specs.Driving.{isActive}
 use Rattle.party.specs.Settling.{attended, settled}
 use Rattle.parties.proofs.Places.{each-each}
+use Rattle.parties.proofs.Loops.{length-of-map}
+use Rattle.parties.proofs.Sweeps.{line-on}
 use borrow.Author.Needs.{needs}
 use Rattle.bus.proofs.Bus.attend.Statement.{statement}
 use Rattle.bus.proofs.Bus.attend.Tie as tie
 
-scan-requires : tie.Need-scan-requires
-scan-requires c κs = search needs
+sweep-requires : tie.Need-sweep-requires
+sweep-requires c κs = search needs
+
+is-on-requires : tie.Need-is-on-requires
+is-on-requires c κs = search needs
 
 change-all-requires : tie.Need-change-all-requires
 change-all-requires c κs = search needs
@@ -23,17 +30,21 @@ answer-requires c κs = search needs
 returns : tie.Need-returns
 returns c =
     let s = c .before .before .before .before .before .before in
-    let atn = s .scan .result .lines .atn in
+    let a = s .before .args in
+    let atn = c .before .before .before .before .before .is-on .result in
+    let z : length (a .ps) ≡ 15 = search (needs, length-of-map) in
     rw (
       c .answer .ensures,
       c .before .unless .ensures,
       c .before .before .stands .ensures,
       c .before .before .before .before .change-all .ensures,
-      each-each (s .before .args .self .count) (settled atn) (attended atn) (s .before .args .ps),
-      s .scan .ensures,
+      each-each (a .self .count) (settled atn) (attended atn) (a .ps),
+      c .before .before .before .before .before .is-on .ensures,
+      s .sweep .ensures,
+      line-on (a .self .count) (a .ps) z isActive,
     ) refl
 
 pub attend-spec : {M : Type 1} → statement M
 attend-spec =
     tie.close
-    (tie.spec scan-requires change-all-requires stands-requires unless-requires answer-requires returns)
+    (tie.spec sweep-requires is-on-requires change-all-requires stands-requires unless-requires answer-requires returns)

@@ -2,6 +2,11 @@ use mathlib.Core.Path.{_≡_, refl, sym, ap, _∙_}
 use mathlib.Core.Bool.{true, false}
 use Rattle.effect.specs.Words.{isAccepted}
 use Rattle.effect.specs.Calls.{placeOf}
+use Rattle.effect.specs.Stands.{hasEnd}
+use lib.ListN.{length}
+use Rattle.parties.specs.Lines.{scanOf}
+use Rattle.parties.proofs.Loops.{length-of-map}
+use Rattle.parties.proofs.Sweeps.{told-scan}
 use Rattle.bus.specs.Record.{lines}
 use Rattle.bus.specs.Machine.{refusal}
 use Rattle.bus.proofs.Seats.{judge-seat, seat}
@@ -18,8 +23,11 @@ slot-requires c κs = search needs
 has-end-requires : tie.Need-has-end-requires
 has-end-requires c κs = search needs
 
-scan-requires : tie.Need-scan-requires
-scan-requires c κs = search needs
+sweep-requires : tie.Need-sweep-requires
+sweep-requires c κs = search needs
+
+told-requires : tie.Need-told-requires
+told-requires c κs = search needs
 
 mul-p : tie.Need-mul-p
 mul-p c = search needs
@@ -51,19 +59,27 @@ follow-requires c κs = search needs
 refuse-requires : tie.Need-refuse-requires
 refuse-requires c κs = search needs
 
+-- What it was told by the pass is what the machine reads.
+heard : (v : tie.After-told) → let w = v .before .before .before .before in let a = w .before .before .before .args in v .told .result ≡ scanOf (w .before .slot .result) (a .self .count) (a .self .parties) (hasEnd (a .self .standing))
+heard v =
+    let w = v .before .before .before .before in
+    let a = w .before .before .before .args in
+    let z : length (a .self .parties) ≡ 15 = search (needs, length-of-map) in
+    v .told .ensures ∙ rw (v .before .has-end .ensures, v .before .before .sweep .ensures) (told-scan (a .self .count) (a .self .parties) z (w .before .slot .result) (hasEnd (a .self .standing)))
+
 -- The refusal is the machine's: what was read at the slot is what the machine reads at the place.
-ruled : (j : tie.After-judged) → let a = j .before .before .before .before .before .before .before .before .before .before .before .before .before .before .args in j .judged .result ≡ refusal (lines (a .self)) (a .self) (a .c)
+ruled : (j : tie.After-judged) → let a = j .before .before .before .before .before .before .before .before .before .before .before .before .before .before .before .args in j .judged .result ≡ refusal (lines (a .self)) (a .self) (a .c)
 ruled j =
     let f = j .before .before .before in
     let v = f .before .before .before .before .before in
-    let w = v .before .before .before .before in
+    let w = v .before .before .before .before .before in
     let a = w .before .before .args in
     rw (
       j .judged .ensures,
       f .before .before .is-inside .ensures,
       f .before .is-command-of .ensures,
       f .is-found .ensures,
-      v .scan .ensures,
+      heard v,
       w .slot .ensures .0,
       w .before .place .ensures,
     ) (judge-seat (a .self) (placeOf (a .c) .0) (a .c))
@@ -72,13 +88,12 @@ returns : tie.Need-returns
 returns c =
     let j = c .before .before .before .before in
     let v = j .before .before .before .before .before .before .before .before in
-    let w = v .before .before .before .before in
+    let w = v .before .before .before .before .before in
     let a = w .before .before .args in
     let ok : isAccepted (refusal (lines (a .self)) (a .self) (a .c)) ≡ true = ap isAccepted (sym (ruled j)) ∙ sym (c .before .before .before .is-accepted .ensures) ∙ c .before .before .if1 .taken in
     c .follow .ensures ∙ rw (
       c .before .effect-of .ensures,
-      v .scan .ensures,
-      v .before .has-end .ensures,
+      heard v,
       w .slot .ensures .0,
       w .before .place .ensures,
       seat (a .self) (a .c) ok,
@@ -88,7 +103,6 @@ returns c =
 returns-2 : tie.Need-returns-2
 returns-2 c =
     let j = c .before .before .before in
-    let a = j .before .before .before .before .before .before .before .before .before .before .before .before .before .before .args in
     let no : isAccepted (j .judged .result) ≡ false = sym (c .before .before .is-accepted .ensures) ∙ c .before .if1 .left in
     c .refuse .ensures ∙ rw (sym (ruled j), no) refl
 
@@ -98,8 +112,9 @@ call-spec =
     (tie.spec
     place-requires
     slot-requires
+    sweep-requires
     has-end-requires
-    scan-requires
+    told-requires
     mul-p
     array-copy-out-p
     is-inside-requires
