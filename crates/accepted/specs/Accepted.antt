@@ -7,6 +7,7 @@ use Rattle.acceptor_step.specs.AcceptorStep.{acceptorEffect}
 use Rattle.accepted.specs.Types.{Place, Party, Standby, Active, Lines, Found, Standing, Call, Effect}
 use Rattle.accepted.specs.Types.call-of
 use Rattle.effect.specs.Calls.{isOn}
+use Rattle.effect.specs.Effects.{quiet}
 use Rattle.host_calls.specs.HostCalls.{write, read, pollRegister, listenOnly, talkOnly, controlled, drop, reset, clear, tell}
 
 -- "A source takes the source step, any other party the acceptor step."
@@ -27,3 +28,5 @@ effectOf l f st p (call-of.InterfaceClear i) = clear st p
 effectOf l f st p (call-of.Reset i) = reset l st p
 effectOf l f st p (call-of.Drop i) = drop st p
 effectOf l f st p call-of.Lines = tell l st p
+-- Document 02, Q-4: who drives the lines is told beside the answer (crates/bus/specs/Drivers.antt), which has event none.
+effectOf l f st p call-of.Drivers = quiet 0 st p

@@ -57,5 +57,6 @@ pub fn effect_of(c: Call, s: Scan, st: Standing, p: Party) -> Effect
         Call::Reset(_) => host_calls::reset(l, st, p),
         Call::Drop(_) => Effect::quiet(p.held_bytes(), st, p.with_held(Slot::Empty)),
         Call::Lines => Effect::does(Said::say(Event::Lines, l.byte(), false, 0), p, st),
+        Call::Drivers => Effect::quiet(0, st, p),
     }
 }

@@ -27,13 +27,13 @@ use Rattle.bus.specs.Types.call-of
 use Rattle.effect.specs.Words.{isAccepted}
 use Rattle.bus.specs.Record.{here, lines}
 use Rattle.effect.specs.Stands.{sendsCommand}
-use Rattle.effect.specs.Effects.{say, quiet}
+use Rattle.effect.specs.Effects.{say, does, quiet}
 use Rattle.bus.specs.Settling.{settle, settleAs, deserted}
 use Rattle.host_calls.specs.HostCalls.{controlled, resetAcceptor, tell}
 use Rattle.bus.specs.Following.{alarm, touch, follow}
 use Rattle.refusals.specs.Refusals.{inStandby, standbyRefusal}
 use Rattle.bus.specs.Machine.{refusal, accepted}
-use Rattle.bus.specs.Delivery.{wrote, held}
+use Rattle.bus.specs.Delivery.{deed, neither, isPut, isHostPut, isTake, isEnd, isWrite, wrote, held}
 use Rattle.bus.proofs.Invariant.{busy, active-busy, sentBy, isCommand, inAcrs, is-acrs, waits, look, Inv, atnOf, settle-inv}
 use Rattle.bus.proofs.Change.{upd-all, Unique, upd-unique, same-apart, upd-apart, weak-look}
 use Rattle.bus.proofs.Putting.{role-heard}
@@ -242,29 +242,45 @@ clear-good b I p ok = let r = known b p (cond (eqb (p .0) (b .system .0)) ruling
     (length-set (all-cleared b I (p .0) (r .0)) (p .0) (chief b I (p .0) (r .0)) ∙ cleared-len b I (p .0) (r .0))
     (clear-raw b I (p .0) (r .0)) (clear-held b I (p .0) (r .0))
 
--- lines
-pub lines-good : (b : Bus) → Inv b → Good b call-of.Lines (touch (atnOf b) b 0 (tell (lines b) (b .standing) (here b 0)))
-lines-good b I = subst (λ (ps : List Party). Good b call-of.Lines (settle (atnOf b) b s ps (b .standing))) (sym (set-getD (b .parties) 0 idle)) (record {
+-- A call that says what it finds: it changes no party and nothing that stands, and settling follows.
+report-good : (b : Bus) → Inv b → (c : Call) (s : Said) → deed (s .event) ≡ neither → s .dropped ≡ 0 → isWrite c ≡ false → Good b c (touch (atnOf b) b 0 (does s (here b 0) (b .standing)))
+report-good b I c s d k w = subst (λ (ps : List Party). Good b c (settle (atnOf b) b s ps (b .standing))) (sym (set-getD (b .parties) 0 idle)) (record {
   inv = settle-inv b (atnOf b) s (b .parties) (b .standing) (I .size) (I .small) refl (I .pre);
   shape = shape (deserted t (b .parties) (b .standing)) refl;
-  bytes = rw (total-each (b .count) heldBytes (settled t) (b .parties) (λ p. refl)) refl;
-  takes = λ h. no (cc);
+  bytes = rw (w, host, k, total-each (b .count) heldBytes (settled t) (b .parties) (λ p. refl)) refl;
+  takes = λ h. let z = taken in no (cc);
   silent = λ j e f. let z = acc j in no (cc);
   rejoin = λ h j e. sym (acc j) ∙ e;
   leaves = λ h j e. stayed (acc j ∙ e);
-  ready = λ h. no (cc);
-  last = λ h. no (cc);
+  ready = λ h. let z = put in no (cc);
+  last = λ h. let z = end in no (cc);
 })
   where
-    s : Said
-    s = say ev.Lines (linesByte (lines b)) false 0
-
     t : Bool
     t = atnOf b
+
+    put : isPut (s .event) ≡ false
+    put = rw (d, isPut) refl
+
+    host : isHostPut (s .event) ≡ false
+    host = rw (d, isHostPut) refl
+
+    taken : isTake (s .event) ≡ false
+    taken = rw (d, isTake) refl
+
+    end : isEnd (s .event) ≡ false
+    end = rw (d, isEnd) refl
 
     acc : (j : ℕ) → at (each (b .count) (settled t) (b .parties)) j .acceptor ≡ here b j .acceptor
     acc j = ap (λ (p : Party). p .acceptor) (seen-settled b t (b .parties) (I .size) (I .small) (I .pre .tail) j)
 
-    shape : (x : Bool) → deserted t (b .parties) (b .standing) ≡ x → Shape (b .standing) call-of.Lines (settleAs t x b s (b .parties) (b .standing))
-    shape false e = keeps refl refl refl refl
-    shape true e = breaks refl refl refl (deserted-stands t (b .parties) (b .standing) e) refl
+    shape : (x : Bool) → deserted t (b .parties) (b .standing) ≡ x → Shape (b .standing) c (settleAs t x b s (b .parties) (b .standing))
+    shape false e = keeps put end refl refl
+    shape true e = breaks put end refl (deserted-stands t (b .parties) (b .standing) e) refl
+
+-- lines and drivers
+pub lines-good : (b : Bus) → Inv b → Good b call-of.Lines (touch (atnOf b) b 0 (tell (lines b) (b .standing) (here b 0)))
+lines-good b I = report-good b I call-of.Lines (say ev.Lines (linesByte (lines b)) false 0) refl refl refl
+
+pub drivers-good : (b : Bus) → Inv b → Good b call-of.Drivers (touch (atnOf b) b 0 (quiet 0 (b .standing) (here b 0)))
+drivers-good b I = report-good b I call-of.Drivers (say ev.None 0 false 0) refl refl refl

@@ -27,6 +27,8 @@
 --
 -- Built, Theorem, Reached. An accepted build gives the invariant, so `delivery` holds from every build. Reached has the facts of every reachable bus that later work cites.
 --
+-- Driving. Who drives each line (specs/Drivers.antt): laws of masks, and of reachable buses that a line is on where it is driven, and that ATN and DAV have one driver, by `delivery`.
+--
 -- The folders hold the proofs of the functions in src/, each under its own name.
 -- Assumes nothing.
 pub mod Examples
@@ -49,3 +51,4 @@ pub mod Built
 pub mod Theorem
 pub mod Reached
 pub mod Seats
+pub mod Driving

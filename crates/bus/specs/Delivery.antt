@@ -65,6 +65,7 @@ isWrite (call-of.InterfaceClear p) = false
 isWrite (call-of.Reset p) = false
 isWrite (call-of.Drop p) = false
 isWrite call-of.Lines = false
+isWrite call-of.Drivers = false
 
 -- "Host bytes accepted are the accepted writes."
 abbrev pub wrote : Call → Refusal → ℕ

@@ -8,3 +8,5 @@ pub mod Rows
 pub mod Examples
 pub mod Secondaries
 pub mod Delivery
+pub mod Drivers
+pub mod Held

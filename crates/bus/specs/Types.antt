@@ -17,6 +17,8 @@ pub use Rattle.names.specs.declared.Name.{Name}
 pub use Rattle.role.specs.declared.Role.{Role}
 pub use Rattle.party.specs.declared.Party.{Party}
 pub use Rattle.parties.specs.declared.Lines.{Lines}
+pub use Rattle.parties.specs.declared.Masks.{Masks}
+pub use Rattle.parties.specs.declared.Counts.{Counts}
 pub use Rattle.parties.specs.declared.Found.{Found}
 pub use Rattle.parties.specs.declared.Found.the-variants.{Nowhere, At}
 pub use Rattle.effect.specs.declared.Standing.{Standing}
@@ -25,6 +27,7 @@ pub use Rattle.bus.specs.declared.Bus.{Bus}
 pub use Rattle.effect.specs.declared.Refusal.{Refusal}
 pub use Rattle.effect.specs.declared.Refusal.the-variants as ruling
 pub use Rattle.bus.specs.declared.Answer.{Answer}
+pub use Rattle.bus.specs.declared.Drivers.{Drivers}
 pub use Rattle.effect.specs.declared.Call.{Call}
 pub use Rattle.effect.specs.declared.Call.the-variants as call-of
 pub use Rattle.effect.specs.declared.Said.{Said}

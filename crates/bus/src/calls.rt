@@ -1,8 +1,10 @@
 // The calls on a bus: each goes through the parties once, meets its refusal or has its effect, and hands the bus back in its answer.
 ghost use mathlib.Core.Path.{_≡_};
 ghost use Rattle.bus.specs.Machine.{call};
+ghost use Rattle.bus.specs.Drivers.{drivers};
 use crate::Answer;
 use crate::Bus;
+use crate::Drivers;
 use accepted::effect_of;
 use effect::Call;
 use parties::every::slot;
@@ -112,5 +114,19 @@ impl Bus {
         ensures { λ r. ⌜ r ≡ call self Call.Lines ⌝ }
     {
         self.call(Call::Lines)
+    }
+
+    // Who drives each line, and how many.
+    pub fn drivers(self) -> Drivers
+        ensures { λ r. ⌜ r ≡ drivers self ⌝ }
+    {
+        let ps = self.parties;
+        let st = self.standing;
+        let masks = sweep(ps, self.count).masks(st.end_mask(self.count));
+        Drivers {
+            masks,
+            counts: masks.counts(),
+            answer: self.call(Call::Drivers),
+        }
     }
 }

@@ -2,6 +2,8 @@
 use effect::Refusal;
 use effect::Standing;
 use event::Event;
+use parties::Counts;
+use parties::Masks;
 use party::Party;
 use party::Place;
 
@@ -27,6 +29,13 @@ pub struct Answer {
     pub dropped: u8,
     pub broken: u8,
     pub bus: Bus,
+}
+
+// What the call that asks who drives the lines answers: who, and how many, of the bus as it was found; and what every call answers.
+pub struct Drivers {
+    pub masks: Masks,
+    pub counts: Counts,
+    pub answer: Answer,
 }
 
 impl Bus {

@@ -7,7 +7,7 @@ use Rattle.parties.specs.Places.{place}
 use Rattle.effect.specs.Types.{Place, Call}
 use Rattle.effect.specs.Types.call-of
 
--- The party that a call names. Lines names none; it reads and changes nothing of the one here.
+-- The party that a call names. Lines and drivers name none; they read and change nothing of the one here.
 abbrev pub placeOf : Call → Place
 placeOf (call-of.Step p) = p
 placeOf (call-of.Write p v e) = p
@@ -21,6 +21,7 @@ placeOf (call-of.InterfaceClear p) = p
 placeOf (call-of.Reset p) = p
 placeOf (call-of.Drop p) = p
 placeOf call-of.Lines = place 0
+placeOf call-of.Drivers = place 0
 
 -- Is the party that a call names there? "lines (no party)"
 abbrev pub isKnown : Call → Bool → Bool
@@ -36,6 +37,7 @@ isKnown (call-of.InterfaceClear p) inside = inside
 isKnown (call-of.Reset p) inside = inside
 isKnown (call-of.Drop p) inside = inside
 isKnown call-of.Lines inside = true
+isKnown call-of.Drivers inside = true
 
 abbrev pub isOn : ℕ → Bool
 isOn x = eqb x 1

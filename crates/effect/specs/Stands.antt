@@ -24,6 +24,11 @@ abbrev pub sendsCommand : ℕ → Standing → Bool
 sendsCommand i Nothing = false
 sendsCommand i (Byte s k v e) = cond (ofCommand k) (eqb i (s .0)) false
 
+-- "EOI is driven by the sender of a standing byte with END" (document 02, Q-4)
+abbrev pub sendsEnd : ℕ → Standing → Bool
+sendsEnd i Nothing = false
+sendsEnd i (Byte s k v e) = cond e (eqb i (s .0)) false
+
 -- The place of the sender, and the first where nothing stands.
 abbrev pub senderSlot : Standing → ℕ
 senderSlot Nothing = 0

@@ -27,7 +27,7 @@ impl Refusal {
 }
 
 impl Call {
-    // The party that a call names; lines names none.
+    // The party that a call names; lines and drivers name none.
     pub fn place(self) -> Place
         ensures { λ r. ⌜ r ≡ placeOf self ⌝ }
     {
@@ -44,6 +44,7 @@ impl Call {
             Call::Reset(p) => p,
             Call::Drop(p) => p,
             Call::Lines => Place(0),
+            Call::Drivers => Place(0),
         }
     }
 
@@ -64,6 +65,7 @@ impl Call {
             Call::Reset(_) => inside,
             Call::Drop(_) => inside,
             Call::Lines => true,
+            Call::Drivers => true,
         }
     }
 }

@@ -48,6 +48,7 @@ pub enum Call {
     Reset(Place),
     Drop(Place),
     Lines,
+    Drivers,
 }
 
 // What an answer says beside its refusal, its broken count and the bus.

@@ -2,11 +2,15 @@
 ghost use mathlib.Core.Path.{_≡_};
 ghost use mathlib.Core.Bool.{cond, false};
 ghost use Prim.Native.Nat.{_<_};
+ghost use Rattle.parties.specs.Places.{within};
+ghost use Rattle.parties.specs.Masks.{mask};
 ghost use Rattle.effect.specs.Types.{Nothing};
-ghost use Rattle.effect.specs.Stands.{stands, hasEnd, sendsCommand, senderSlot, left};
+ghost use Rattle.effect.specs.Stands.{stands, hasEnd, sendsCommand, sendsEnd, senderSlot, left};
 use crate::Standing;
 use offer::Kind;
 use parties::every::slot;
+use parties::sweeping::bit_of;
+use parties::sweeping::only_if;
 use party::Place;
 
 impl Standing {
@@ -54,6 +58,21 @@ impl Standing {
                 Kind::Data => false,
                 Kind::Status => false,
             },
+        }
+    }
+
+    // Who drives EOI, of so many parties, as a mask: the sender of a byte with END.
+    pub fn end_mask(self, count: u8) -> u16
+        ensures { λ r. ⌜ r ≡ mask (within count) (λ i. sendsEnd i self) ⌝ }
+    {
+        match self {
+            Standing::Nothing => 0,
+            Standing::Byte {
+                sender,
+                kind: _,
+                value: _,
+                end,
+            } => only_if(end, bit_of(sender, count)),
         }
     }
 

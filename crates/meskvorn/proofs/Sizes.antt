@@ -11,6 +11,7 @@ use Rattle.party.specs.declared.Place.{Place}
 use Rattle.parties.specs.Places.{otherTalker}
 use Rattle.parties.proofs.Places.{length-each}
 use Rattle.effect.specs.declared.Call.{Call}
+use Rattle.effect.specs.declared.Call.the-variants as call-of
 use Rattle.effect.specs.declared.Effect.{Effect}
 use Rattle.effect.specs.declared.After.{After}
 use Rattle.effect.specs.declared.After.the-variants as after
@@ -23,6 +24,7 @@ use Rattle.bus.specs.declared.Answer.{Answer}
 use Rattle.bus.specs.Record.{here, lines, built, noParties, refuse, buildExtended}
 use Rattle.addresses.specs.Addresses.{names, placed, badBuild}
 use Rattle.bus.specs.Following.{followed}
+use Rattle.bus.specs.Drivers.{drivers}
 use Rattle.bus.specs.Machine.{call, refusal, accepted, run}
 use Rattle.runner.specs.Waiting.{byPlace}
 use Rattle.steps.specs.Steps.{steps}
@@ -61,6 +63,9 @@ call-size b c h =
     let i = placeOf c .0 in
     let e = effectOf l (otherTalker (b .count) i (b .parties)) (b .standing) (here b i) c in
     either (isAccepted (refusal l b c)) (accepted l b c) (refuse (refusal l b c) b) (followed-size (e .after) (l .atn) b i e h) h
+
+pub drivers-size : (b : Bus) → Full b → Full (drivers b .answer .bus)
+drivers-size b h = call-size b call-of.Drivers h
 
 run-size : (b : Bus) (cs : List Call) → Full b → Full (run b cs)
 run-size b [] h = h

@@ -3,11 +3,14 @@
 use Prim.Native.Nat.{ℕ}
 use mathlib.Core.Path.{_≡_}
 use mathlib.Core.Bool.{cond}
-use mathlib.Core.List.{List}
+use mathlib.Core.List.{List, [], _∷_}
 use lib.Dec.{eqb}
 use Rattle.effect.specs.declared.Refusal.the-variants as ruling
 use Rattle.bus.specs.declared.Bus.{Bus}
 use Rattle.bus.specs.declared.Answer.{Answer}
+use Rattle.bus.specs.declared.Drivers.{Drivers}
+use Rattle.parties.specs.declared.Masks.{Masks}
+use Rattle.parties.specs.declared.Counts.{Counts}
 use Rattle.bus.specs.Record.{here, refuse}
 use Rattle.image.specs.Image.{rowsOf}
 use Rattle.packing.specs.Packing.{packed, packedName}
@@ -42,6 +45,20 @@ pub record Gave (g : Given) (after : List (List ℕ)) (counts : List ℕ) (n : �
   pub said : n ≡ refusalNumber (g .refusal)
   pub counted : counts ≡ g .counts
   pub rows : after ≡ rowsOf (g .bus)
+
+-- The six lines in document 01's order: ATN, DAV, NRFD, NDAC, EOI, SRQ.
+abbrev pub maskList : Masks → List ℕ
+maskList m = m .atn ∷ m .dav ∷ m .nrfd ∷ m .ndac ∷ m .eoi ∷ m .srq ∷ []
+
+abbrev pub countList : Counts → List ℕ
+countList n = n .atn ∷ n .dav ∷ n .nrfd ∷ n .ndac ∷ n .eoi ∷ n .srq ∷ []
+
+-- A host was told these drivers: the number is the answer's, masks and counts are those of the lines, and the rows are those of the bus after it.
+pub record Counted (d : Drivers) (after : List (List ℕ)) (masks counts : List ℕ) (n : ℕ) : Type 0 where
+  pub said : n ≡ packed (d .answer)
+  pub who : masks ≡ maskList (d .masks)
+  pub number : counts ≡ countList (d .counts)
+  pub rows : after ≡ rowsOf (d .answer .bus)
 
 -- The name of the party at a place, as a number: its high byte, 255 or the secondary, tells the two sorts of party apart. The largest number of 16 bits
 -- stands for no party.

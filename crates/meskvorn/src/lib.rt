@@ -5,6 +5,7 @@ use run::Ran;
 
 pub mod builds;
 pub mod calls;
+pub mod drivers;
 pub mod host;
 pub mod turns;
 

@@ -55,6 +55,7 @@ own p atn another sends chief (call-of.InterfaceClear i) = cond chief ruling.Acc
 own p atn another sends chief (call-of.Reset i) = cond sends ruling.Standing ruling.Accepted
 own p atn another sends chief (call-of.Drop i) = ruling.Accepted
 own p atn another sends chief call-of.Lines = ruling.Accepted
+own p atn another sends chief call-of.Drivers = ruling.Accepted
 
 -- "Order: .. 1, values, then 4 to 9."
 abbrev pub judge : Bool → Party → Bool → Bool → Bool → Bool → Call → Refusal

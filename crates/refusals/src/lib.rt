@@ -113,6 +113,7 @@ fn met(c: Call, p: Party, atn: bool, another: bool, sends: bool, chief: bool) ->
         Call::Reset(_) => when(sends, Refusal::Standing, Refusal::Accepted),
         Call::Drop(_) => Refusal::Accepted,
         Call::Lines => Refusal::Accepted,
+        Call::Drivers => Refusal::Accepted,
     }
 }
 

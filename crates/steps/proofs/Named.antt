@@ -101,6 +101,7 @@ module _ (p : Party) where
   effect-same l f st (call-of.Reset i) = cond-elim Same (isActive p) (λ _. refl) (λ _. refl)
   effect-same l f st (call-of.Drop i) = refl
   effect-same l f st call-of.Lines = refl
+  effect-same l f st call-of.Drivers = refl
 
 -- What follows leaves every name.
 module _ (b : Bus) (i : ℕ) (e : Effect) (same : nameOf (e .party) ≡ nameOf (here b i)) where

@@ -113,6 +113,12 @@ say-requires c κs = search needs
 does-requires : tie.Need-does-requires
 does-requires c κs = search needs
 
+enum-told-8 : tie.Need-enum-told-8
+enum-told-8 c = search needs
+
+quiet-requires-5 : tie.Need-quiet-requires-5
+quiet-requires-5 c κs = search needs
+
 returns : tie.Need-returns
 returns c =
     simp (
@@ -210,6 +216,13 @@ returns-12 c =
       c .before .before .before .enum-told7 .given .1,
     )
 
+returns-13 : tie.Need-returns-13
+returns-13 c =
+    simp (
+      c .quiet5 .ensures,
+      c .before .enum-told8 .given .1,
+    )
+
 pub effect-of-spec : {M : Type 1} → statement M
 effect-of-spec =
     tie.close
@@ -251,6 +264,8 @@ effect-of-spec =
     byte-requires
     say-requires
     does-requires
+    enum-told-8
+    quiet-requires-5
     returns
     returns-2
     returns-3
@@ -262,4 +277,5 @@ effect-of-spec =
     returns-9
     returns-10
     returns-11
-    returns-12)
+    returns-12
+    returns-13)

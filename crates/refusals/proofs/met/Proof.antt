@@ -89,6 +89,9 @@ enum-told-8 c = search needs
 enum-told-9 : tie.Need-enum-told-9
 enum-told-9 c = search needs
 
+enum-told-10 : tie.Need-enum-told-10
+enum-told-10 c = search needs
+
 returns : tie.Need-returns
 returns c =
     simp (c .enum-told .given .1)
@@ -170,6 +173,10 @@ returns-12 : tie.Need-returns-12
 returns-12 c =
     simp (c .enum-told9 .given .1)
 
+returns-13 : tie.Need-returns-13
+returns-13 c =
+    simp (c .enum-told10 .given .1)
+
 pub met-spec : {M : Type 1} → statement M
 met-spec =
     tie.close
@@ -203,6 +210,7 @@ met-spec =
     when-requires-8
     enum-told-8
     enum-told-9
+    enum-told-10
     returns
     returns-2
     returns-3
@@ -214,4 +222,5 @@ met-spec =
     returns-9
     returns-10
     returns-11
-    returns-12)
+    returns-12
+    returns-13)

@@ -38,6 +38,9 @@ enum-known-self-11 c = search needs
 enum-told : tie.Need-enum-told
 enum-told c = search needs
 
+enum-told-2 : tie.Need-enum-told-2
+enum-told-2 c = search needs
+
 returns : tie.Need-returns
 returns c = search needs
 
@@ -75,6 +78,10 @@ returns-12 : tie.Need-returns-12
 returns-12 c =
     simp (c .enum-told .given .1)
 
+returns-13 : tie.Need-returns-13
+returns-13 c =
+    simp (c .enum-told2 .given .1)
+
 pub place-spec : {M : Type 1} → statement M
 place-spec =
     tie.close
@@ -91,6 +98,7 @@ place-spec =
     enum-known-self-10
     enum-known-self-11
     enum-told
+    enum-told-2
     returns
     returns-2
     returns-3
@@ -102,4 +110,5 @@ place-spec =
     returns-9
     returns-10
     returns-11
-    returns-12)
+    returns-12
+    returns-13)
