@@ -1,7 +1,8 @@
 /* The GPIB bus of document 01 for C and C++ programs. Link libmeskvorn.a, which `rt staticlib meskvorn` writes to target/staticlib.
  *
- * meskvorn_call, meskvorn_build, meskvorn_build_extended, meskvorn_name, meskvorn_turns and meskvorn_run are the proved functions, for pointers that
- * are valid for their lengths and do not overlap. The inline functions below them take the answer apart and take NULL as well; they are tested. */
+ * meskvorn_call, meskvorn_build, meskvorn_build_extended, meskvorn_name, meskvorn_turns, meskvorn_drivers and meskvorn_run are the proved functions,
+ * for pointers that are valid for their lengths and do not overlap. The inline functions below them take the answer apart and take NULL as well; they
+ * are tested. */
 #ifndef MESKVORN_H
 #define MESKVORN_H
 
@@ -79,6 +80,19 @@ enum {
     MESKVORN_LINE_SRQ = 4
 };
 
+/* The lines, by their place among the masks and counts of meskvorn_drivers. */
+typedef enum meskvorn_line {
+    MESKVORN_DRIVERS_OF_ATN = 0,
+    MESKVORN_DRIVERS_OF_DAV = 1,
+    MESKVORN_DRIVERS_OF_NRFD = 2,
+    MESKVORN_DRIVERS_OF_NDAC = 3,
+    MESKVORN_DRIVERS_OF_EOI = 4,
+    MESKVORN_DRIVERS_OF_SRQ = 5
+} meskvorn_line;
+
+/* How many lines they are. */
+enum { MESKVORN_LINES = 6 };
+
 /* The most parties that a bus has. */
 enum { MESKVORN_MOST_PARTIES = 15 };
 
@@ -109,6 +123,13 @@ typedef struct meskvorn_party_name {
     uint8_t secondary;
 } meskvorn_party_name;
 
+/* Of the drivers: for each line a mask with a bit for each party that drives it, party 0 lowest, and how many they are. */
+typedef struct meskvorn_drivers_answer {
+    meskvorn_answer answer;
+    uint16_t masks[MESKVORN_LINES];
+    uint32_t counts[MESKVORN_LINES];
+} meskvorn_drivers_answer;
+
 /* The proved functions. No pointer may be NULL. The first three take the rows of a bus and give the answer as a number: from the low byte up refusal,
  * event, byte, END, dropped, broken. An operation that is none of the twelve is refused with 3. Whatever the rows held, a build leaves the bus that it
  * asks for, or the bus of no parties where it is refused. */
@@ -126,6 +147,10 @@ uint16_t meskvorn_name(const uint8_t (*rows)[MESKVORN_ROW], uint8_t party);
 /* Gives so many turns on the bus, each to the party that has waited longest for one since the call began, of equals to the lowest. Writes how many
  * turns each of the fifteen places had, and gives the refusal: 0, or 1 on the bus of no parties, where all counts are 0. */
 uint8_t meskvorn_turns(uint8_t (*rows)[MESKVORN_ROW], uint16_t turns, uint16_t *counts);
+
+/* Writes which parties drive each line, and how many they are, as the call finds the bus; there is an entry for each line. It is never refused, leaves
+ * the bus as the lines do, and gives its answer as a number like the first three, with the event none. No operation of meskvorn_call stands for it. */
+uint64_t meskvorn_drivers(uint8_t (*rows)[MESKVORN_ROW], uint16_t *masks, uint32_t *counts);
 
 /* Runs a script and writes its text at the start of out, if out has 34 bytes for each record and part of one. Gives the number of bytes written. */
 size_t meskvorn_run(const uint8_t *script, size_t length, uint8_t *out, size_t room);
@@ -262,6 +287,29 @@ static inline meskvorn_answer meskvorn_bus_drop(meskvorn_bus *bus, uint8_t party
 static inline meskvorn_answer meskvorn_bus_lines(meskvorn_bus *bus)
 {
     return meskvorn_bus_call(bus, MESKVORN_OPERATION_LINES, 0, 0, 0);
+}
+
+/* Which parties drive each line. With a NULL bus all masks and counts are 0. */
+static inline meskvorn_drivers_answer meskvorn_bus_drivers(meskvorn_bus *bus)
+{
+    meskvorn_drivers_answer drivers;
+    int line;
+    for (line = 0; line < MESKVORN_LINES; line++) {
+        drivers.masks[line] = 0;
+        drivers.counts[line] = 0;
+    }
+    drivers.answer = meskvorn_answer_of(MESKVORN_REFUSAL_RECORD);
+    if (bus != NULL) {
+        drivers.answer = meskvorn_answer_of(meskvorn_drivers(bus->rows, drivers.masks, drivers.counts));
+    }
+    return drivers;
+}
+
+/* 1 if the party drives the line, else 0. */
+static inline int meskvorn_is_driven_by(const meskvorn_drivers_answer *drivers, meskvorn_line line, uint8_t party)
+{
+    int known = drivers != NULL && (unsigned)line < MESKVORN_LINES && party < MESKVORN_MOST_PARTIES;
+    return known ? drivers->masks[line] >> party & 1 : 0;
 }
 
 /* meskvorn_turns, where counts has room for fifteen, or is NULL if they are not wanted. */

@@ -1,5 +1,5 @@
-//! Builds from lists in any order, without secondaries and with some, calls by number, and runs on
-//! such buses: no record can ask for these.
+//! Builds from lists in any order, without secondaries and with some, calls by number, and runs and
+//! drivers on such buses: no record can ask for these.
 
 use crate::codes::{self, LISTEN_ADDRESS};
 use crate::list;
@@ -114,6 +114,17 @@ impl Pair<'_> {
         self.differ(format!("{model:?}"), format!("{subject:?}"))
     }
 
+    fn drivers(&mut self) -> Done {
+        self.calls.push(list::DRIVERS);
+        let model = self.bus.drivers();
+        let subject = self.subject.drivers();
+        self.agree(model.answer, subject.answer)?;
+        if subject == model {
+            return Ok(());
+        }
+        self.differ(words::drivers(&model), words::drivers(&subject))
+    }
+
     /// The system party makes one party listen. Talk-only then tells who does: it is refused with 4
     /// to a listener, and with 5 to all others.
     fn address_one(&mut self, random: &mut Random) -> Done {
@@ -173,7 +184,8 @@ impl Pair<'_> {
         for party in 0..=count {
             self.call([CLEAR, party, 0, 0])?;
         }
-        self.call([LINES, 0, 0, 0])
+        self.call([LINES, 0, 0, 0])?;
+        self.drivers()
     }
 
     /// Every two names of these, in both orders.
@@ -228,7 +240,9 @@ impl Pair<'_> {
                 self.address_one(random)?;
             }
             self.run(likely_turns(&self.bus, random))?;
+            self.drivers()?;
             self.any_calls(random)?;
+            self.drivers()?;
         }
         Ok(())
     }

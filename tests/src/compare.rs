@@ -3,7 +3,7 @@
 use std::panic::{catch_unwind, AssertUnwindSafe};
 
 use crate::list;
-use crate::model::{Answer, Name, Turns};
+use crate::model::{Answer, Drivers, Name, Turns};
 use crate::script::{self, LONGEST, RECORD};
 use crate::shrink;
 use crate::subject::Subject;
@@ -23,6 +23,15 @@ pub enum Difference {
         number: usize,
         model: Turns,
         subject: Turns,
+    },
+    Drivers {
+        number: usize,
+        model: Drivers,
+        subject: Drivers,
+    },
+    /// The drivers, asked for, leave another bus than the lines do.
+    LikeLines {
+        number: usize,
     },
     /// What the party is called by, if there is one.
     Name {
@@ -70,6 +79,11 @@ impl Difference {
             Difference::Turns { model, subject, .. } => {
                 format!("model {model:?}, subject {subject:?}")
             }
+            Difference::Drivers { model, subject, .. } => {
+                let (model, subject) = (words::drivers(model), words::drivers(subject));
+                format!("model {model}; subject {subject}")
+            }
+            Difference::LikeLines { .. } => "drivers leave another bus than lines".to_string(),
             Difference::Name {
                 party,
                 model,
@@ -99,6 +113,8 @@ impl Difference {
         match self {
             Difference::Answer { number, .. }
             | Difference::Turns { number, .. }
+            | Difference::Drivers { number, .. }
+            | Difference::LikeLines { number }
             | Difference::Name { number, .. }
             | Difference::Bus { number }
             | Difference::Bound { number, .. }

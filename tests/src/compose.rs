@@ -1,7 +1,7 @@
 //! Writes lists call by call beside a bus, so that a byte can be walked to its end.
 
 use crate::list;
-use crate::model::{Answer, Bus, Event, Name, MOST_PARTIES};
+use crate::model::{Answer, Bus, Drivers, Event, Name, MOST_PARTIES};
 use crate::script::{self, Record, STEP, WRITE};
 
 #[derive(Clone, Default)]
@@ -29,6 +29,11 @@ impl Composer {
     pub fn run(&mut self, turns: u16) {
         self.records.push(list::run(turns));
         self.bus.give_turns(turns);
+    }
+
+    pub fn drivers(&mut self) -> Drivers {
+        self.records.push(list::DRIVERS);
+        self.bus.drivers()
     }
 
     pub fn step(&mut self, party: u8) -> Answer {

@@ -1,10 +1,11 @@
-//! Tables run whole: builds, operations, places, poll registers, runs, damaged scripts.
+//! Tables run whole: builds, operations, places, poll registers, drivers, runs, damaged scripts.
 
 use crate::codes::SPE;
 use crate::compare::{Comparison, Finding};
 use crate::compose::Composer;
 use crate::guided::Guided;
 use crate::hearing;
+use crate::holders;
 use crate::model::Event;
 use crate::random::Random;
 use crate::script::{self, Record, BUILD, CLEAR, LINES, LISTEN, LONGEST, POLL, READ, RECORD};
@@ -159,6 +160,7 @@ pub fn run(comparison: &mut Comparison, seed: u64) -> Done {
     operations_and_places(comparison)?;
     hearing::run(comparison, seed)?;
     poll_registers(comparison)?;
+    holders::run(comparison)?;
     runs(comparison, &mut Guided::new(seed))?;
     damaged_scripts(comparison, &mut Random::new(seed))
 }

@@ -22,6 +22,8 @@ struct Habits {
     idle_steps: usize,
     reads: usize,
     runs: usize,
+    /// How often the drivers are asked for.
+    drivers: usize,
 }
 
 pub struct Guided {
@@ -57,7 +59,7 @@ impl Guided {
         &self.list
     }
 
-    /// The records given, then `more` calls of all sorts, then the lines.
+    /// The records given, then `more` calls of all sorts, then the lines and their drivers.
     pub fn go_on(&mut self, records: &[Record], more: usize) -> &[u8] {
         self.begin(records);
         self.habits = Habits {
@@ -67,11 +69,13 @@ impl Guided {
             idle_steps: 250,
             reads: 500,
             runs: 15,
+            drivers: 15,
         };
         for _ in 0..more {
             self.next_call();
         }
         self.call(script::record(LINES, 0, 0, 0));
+        self.call(list::DRIVERS);
         &self.list
     }
 
@@ -91,6 +95,7 @@ impl Guided {
             idle_steps: random.pick(&[0, 20, 100, 400]),
             reads: random.pick(&[50, 300, 900]),
             runs: random.pick(&[0, 0, 5, 20, 100]),
+            drivers: random.pick(&[0, 10, 30, 200]),
         };
     }
 
@@ -105,6 +110,9 @@ impl Guided {
         while self.random.per_mille(60) {
             let run = self.run();
             self.call(run);
+        }
+        while self.random.per_mille(60) {
+            self.call(list::DRIVERS);
         }
         self.good_build();
     }
@@ -173,6 +181,8 @@ impl Guided {
     fn next_call(&mut self) {
         let record = if self.random.per_mille(self.habits.runs) {
             self.run()
+        } else if self.random.per_mille(self.habits.drivers) {
+            list::DRIVERS
         } else if self.random.per_mille(self.habits.wild) {
             self.wild_record()
         } else if self.random.per_mille(self.habits.disturb) {

@@ -1,7 +1,9 @@
 //! Demand 3, checked call by call over a whole list with books of its own.
 //! It reads the calls, the answers and the party states, and uses none of the machine's rules.
 
-use crate::model::{Acceptor, Answer, Bus, Data, Event, Refusal, Source, MOST_PARTIES};
+mod drivers;
+
+use crate::model::{Acceptor, Answer, Bus, Data, Drivers, Event, Refusal, Source, MOST_PARTIES};
 use crate::script::{Record, BUILD, LISTEN, RESET, STEP, WRITE};
 
 /// A byte that was put up and still stands. Parties are bits of the masks.
@@ -77,6 +79,14 @@ impl Ledger {
         self.enter_end(answer)?;
         self.enter_counts(call, answer)?;
         self.check_bus(after)
+    }
+
+    /// What a call for drivers told and left; `lines` is the lines answer of the bus that it found.
+    pub fn check_drivers(&self, before: &Bus, told: &Drivers, lines: u8, after: &Bus) -> Check {
+        let bare = told.answer == Answer::NOTHING;
+        demand(bare, "a call for drivers tells more than them")?;
+        demand(before == after, "a call for drivers changed the bus")?;
+        drivers::check(told, lines, before.count)
     }
 
     /// A party takes by its own step from ACRS to ACDS, and in no other way.
@@ -211,6 +221,7 @@ impl Ledger {
         let puts = sums.puts == sums.ended + sums.broken + standing;
         demand(puts, "puts are not ended + broken off + standing")?;
         let accepted = sums.accepted == sums.puts - sums.status + sums.dropped + held;
-        demand(accepted, "accepted writes are not puts + dropped + held")
+        demand(accepted, "accepted writes are not puts + dropped + held")?;
+        drivers::check(&bus.drivers_now(), bus.line_bits(), bus.count)
     }
 }

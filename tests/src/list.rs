@@ -1,14 +1,15 @@
-//! Lists as the comparison makes them: the records of a script, and among them runs and builds with
-//! secondaries, which no script can ask for. These come in sixes of bytes too, each with a mark of
-//! its own, so that a list is cut as a script is.
+//! Lists as the comparison makes them: the records of a script, and among them runs, calls for
+//! drivers and builds with secondaries, which no script can ask for. These come in sixes of bytes
+//! too, each with a mark of its own, so that a list is cut as a script is.
 
 use std::borrow::Cow;
 use std::mem;
 
 use crate::model::{Answer, Bus, Name, Refusal};
-use crate::script::{self, Record, BUILD, RECORD, STEP};
+use crate::script::{self, Record, BUILD, LINES, RECORD, STEP};
 
 const RUN_MARK: [u8; 2] = [0x52, 0x54];
+const DRIVERS_MARK: [u8; 2] = [0x44, 0x52];
 const NAME_MARK: [u8; 2] = [0x4E, 0x41];
 const BUILD_MARK: [u8; 2] = [0x58, 0x50];
 
@@ -19,6 +20,8 @@ const NO_OPERATION: u8 = 255;
 #[derive(Clone, PartialEq, Debug)]
 pub enum Piece {
     Run(u16),
+    /// The drivers of each line.
+    Drivers,
     /// One party of the build that follows.
     Name(Name),
     /// The parties named right before, and the system party.
@@ -37,6 +40,7 @@ impl Piece {
         let [mark, second, _, fields @ ..] = record;
         match ([mark, second], fields) {
             (RUN_MARK, [_, high, low]) => Piece::Run(u16::from_be_bytes([high, low])),
+            (DRIVERS_MARK, _) => Piece::Drivers,
             (NAME_MARK, [primary, 0, _]) => Piece::Name(Name::plain(primary)),
             (NAME_MARK, [primary, _, own]) => Piece::Name(Name::extended(primary, own)),
             (BUILD_MARK, [system, ..]) => Piece::Build(Vec::new(), system),
@@ -50,6 +54,9 @@ pub const fn run(turns: u16) -> Record {
     let [high, low] = turns.to_be_bytes();
     [RUN_MARK[0], RUN_MARK[1], NO_OPERATION, 0, high, low]
 }
+
+/// A call for the drivers.
+pub const DRIVERS: Record = [DRIVERS_MARK[0], DRIVERS_MARK[1], NO_OPERATION, 0, 0, 0];
 
 fn name(name: Name) -> Record {
     let (has, secondary) = match name.secondary {
@@ -92,6 +99,7 @@ pub fn pieces(list: &[u8]) -> impl Iterator<Item = Piece> + '_ {
 pub fn enter(bus: &mut Bus, piece: &Piece) -> Answer {
     match piece {
         Piece::Run(turns) => Answer::refused(bus.give_turns(*turns).refusal),
+        Piece::Drivers => bus.drivers().answer,
         Piece::Name(_) => Answer::NOTHING,
         Piece::Build(names, system) => bus.build_extended(names, *system),
         Piece::Record(record) => script::run_record(bus, *record),
@@ -108,25 +116,26 @@ pub fn bus_after(list: &[u8]) -> Bus {
     bus
 }
 
-/// The script that a list stands for: each run is its steps, and a refused one is none.
+/// The script that a list stands for: each run is its steps, and a refused one is none. Where the
+/// drivers are asked for it has the lines, which leave the same bus.
 /// None if the list has a build with names.
 pub fn as_script(list: &[u8]) -> Option<Cow<'_, [u8]>> {
     let mut all_records = true;
     for bytes in list.chunks(RECORD) {
         match Piece::of(bytes) {
             Piece::Name(_) | Piece::Build(..) => return None,
-            Piece::Run(_) => all_records = false,
+            Piece::Run(_) | Piece::Drivers => all_records = false,
             Piece::Record(_) | Piece::Tail => {}
         }
     }
     Some(if all_records {
         Cow::Borrowed(list)
     } else {
-        Cow::Owned(with_steps(list))
+        Cow::Owned(with_records_alone(list))
     })
 }
 
-fn with_steps(list: &[u8]) -> Vec<u8> {
+fn with_records_alone(list: &[u8]) -> Vec<u8> {
     let mut bus = Bus::new();
     let mut script = Vec::new();
     for bytes in list.chunks(RECORD) {
@@ -134,15 +143,16 @@ fn with_steps(list: &[u8]) -> Vec<u8> {
             Piece::Run(turns) => {
                 let steps = bus.order_of(turns);
                 script.extend(steps.flat_map(|party| script::record(STEP, party, 0, 0)));
-                continue;
             }
-            // A run's order needs the number of parties, which no other call changes.
-            Piece::Record(build @ [_, _, BUILD, ..]) => {
-                script::run_record(&mut bus, build);
+            Piece::Drivers => script.extend(script::record(LINES, 0, 0, 0)),
+            piece => {
+                // A run's order needs the number of parties, which no other call changes.
+                if let Piece::Record(build @ [_, _, BUILD, ..]) = piece {
+                    script::run_record(&mut bus, build);
+                }
+                script.extend_from_slice(bytes);
             }
-            _ => {}
         }
-        script.extend_from_slice(bytes);
     }
     script
 }

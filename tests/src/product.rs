@@ -2,10 +2,10 @@
 
 use meskvorn::Bus;
 
-use crate::model::{Answer, Event, Name, Refusal, Turns};
+use crate::model::{Answer, Drivers, Event, Line, Name, Refusal, Turns};
 use crate::script::{Call, CLEAR, DROP, LINES, LISTEN, POLL, READ, RECORD, RESET, STANDBY, STEP};
 use crate::script::{TAKE, TALK, WRITE};
-use crate::subject::{try_run_by, Subject};
+use crate::subject::{like_lines_by, try_run_by, Subject};
 
 /// What the longest line of text takes.
 const LINE: usize = 34;
@@ -35,6 +35,16 @@ fn give_turns(bus: &mut Bus, turns: u16) -> Turns {
     Turns {
         refusal: Refusal::ALL[told.refusal as usize],
         counts: told.counts,
+    }
+}
+
+fn drivers(bus: &mut Bus) -> Drivers {
+    let told = bus.drivers();
+    let of = |line: Line| told.of(meskvorn::Line::ALL[line as usize]);
+    Drivers {
+        answer: in_the_models_terms(told.answer),
+        masks: Line::ALL.map(|line| of(line).mask),
+        counts: Line::ALL.map(|line| of(line).count),
     }
 }
 
@@ -110,5 +120,14 @@ impl Subject for Product {
         let run = |bus: &mut Bus| give_turns(bus, turns);
         let step = |bus: &mut Bus, party| in_the_models_terms(bus.step(party));
         try_run_by(&self.bus, order, run, step)
+    }
+
+    fn drivers(&mut self) -> Drivers {
+        drivers(&mut self.bus)
+    }
+
+    fn drivers_like_lines(&self) -> bool {
+        let lines = |bus: &mut Bus| in_the_models_terms(bus.lines());
+        like_lines_by(&self.bus, drivers, lines)
     }
 }

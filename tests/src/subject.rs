@@ -1,6 +1,6 @@
 //! The thing under test, as the comparison drives it.
 
-use crate::model::{Answer, Bus, Name, Turns, MOST_PARTIES};
+use crate::model::{Answer, Bus, Drivers, Name, Turns, MOST_PARTIES};
 use crate::script::{self, Call, Record};
 
 pub trait Subject {
@@ -30,6 +30,12 @@ pub trait Subject {
     /// the steps, and whether both left the same bus.
     fn try_run(&self, turns: u16, order: &[u8]) -> (Vec<Answer>, bool);
 
+    /// The drivers of each line of the kept bus.
+    fn drivers(&mut self) -> Drivers;
+
+    /// Whether the drivers and the lines, asked for on copies of the kept bus, leave the same bus.
+    fn drivers_like_lines(&self) -> bool;
+
     /// One record on the kept bus.
     fn record(&mut self, record: Record) -> Answer {
         script::run_record_by(self, record, Self::build, Self::call)
@@ -55,6 +61,18 @@ pub fn try_run_by<B: Clone + PartialEq>(
     let steps = order.iter().map(|&party| step(&mut single, party));
     let answers = steps.collect();
     (answers, whole == single)
+}
+
+/// `drivers_like_lines` for a subject that keeps such a bus.
+pub fn like_lines_by<B: Clone + PartialEq>(
+    bus: &B,
+    drivers: impl Fn(&mut B) -> Drivers,
+    lines: impl Fn(&mut B) -> Answer,
+) -> bool {
+    let (mut one, mut other) = (bus.clone(), bus.clone());
+    drivers(&mut one);
+    lines(&mut other);
+    one == other
 }
 
 /// The model as its own subject.
@@ -94,5 +112,13 @@ impl Subject for ModelSubject {
 
     fn try_run(&self, turns: u16, order: &[u8]) -> (Vec<Answer>, bool) {
         try_run_by(&self.bus, order, |bus| bus.give_turns(turns), Bus::step)
+    }
+
+    fn drivers(&mut self) -> Drivers {
+        self.bus.drivers()
+    }
+
+    fn drivers_like_lines(&self) -> bool {
+        like_lines_by(&self.bus, Bus::drivers, Bus::lines)
     }
 }

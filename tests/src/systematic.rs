@@ -142,7 +142,8 @@ pub fn prefixes() -> Vec<Vec<Record>> {
     found
 }
 
-/// All operations and some runs, with own, other and no such party, and values in and out of range.
+/// All operations, some runs and the drivers, with own, other and no such party, and values in and
+/// out of range.
 fn all_calls() -> Vec<Record> {
     let mut calls = vec![
         script::record(LINES, 0, 0, 0),
@@ -154,6 +155,7 @@ fn all_calls() -> Vec<Record> {
     for turns in [1, TURNS_A_PARTY] {
         calls.push(list::run(turns * u16::from(PARTIES)));
     }
+    calls.push(list::DRIVERS);
     for party in [0, 1, 2, PARTIES, 255] {
         for operation in [STEP, READ, TAKE, STANDBY, CLEAR, RESET, DROP] {
             calls.push(script::record(operation, party, 2, 2));

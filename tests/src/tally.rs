@@ -1,6 +1,7 @@
 //! How often each refusal and each event came.
 
 use crate::bound::Tried;
+use crate::driven::Driven;
 use crate::marks::Marks;
 use crate::model::{Answer, Event, Refusal, Turns};
 
@@ -17,6 +18,7 @@ pub struct Tally {
     pub turns: u64,
     pub bound: Tried,
     pub marks: Marks,
+    pub driven: Driven,
 }
 
 /// Fewer starts would say little of the bound, on racks without secondaries or with some.
@@ -63,7 +65,8 @@ impl Tally {
         let never = all.filter(|(count, _)| **count == 0).map(|(_, word)| word);
         let starts = self.bound.starts.iter().zip(Tried::WORDS);
         let few = starts.filter(|(count, _)| **count < LEAST_STARTS);
-        never.chain(few.map(|(_, word)| word)).collect()
+        let few = few.map(|(_, word)| word);
+        never.chain(few).chain(self.driven.missing()).collect()
     }
 
     pub fn print(&self) {
@@ -86,5 +89,6 @@ impl Tally {
         for (word, count) in Marks::WORDS.iter().zip(&self.marks.counts) {
             println!("    {word:<30} {count:>12}");
         }
+        self.driven.print();
     }
 }

@@ -107,6 +107,30 @@ impl Walk<'_> {
         }
     }
 
+    /// The drivers, beside the lines of the same bus.
+    fn drivers(&mut self) -> Done {
+        let number = self.number;
+        let before = self.bus;
+        let (model, lines) = (before.clone().drivers(), before.clone().lines());
+        let like_lines = self.subject.drivers_like_lines();
+        let subject = self.subject.drivers();
+        self.agree(list::DRIVERS, subject.answer, |bus| bus.drivers().answer)?;
+        if model != subject {
+            return Err(Difference::Drivers {
+                number,
+                model,
+                subject,
+            });
+        }
+        if !like_lines {
+            return Err(Difference::LikeLines { number });
+        }
+        self.tally.driven.enter(&model);
+        let ledger = &self.ledger;
+        let checked = ledger.check_drivers(&before, &model, lines.byte, &self.bus);
+        checked.map_err(|rule| Difference::Ledger { number, rule })
+    }
+
     /// Tries the bound on copies, if it holds from here.
     fn try_bound(&mut self) -> Done {
         let Some(start) = Start::of(&self.bus) else {
@@ -134,6 +158,7 @@ impl Walk<'_> {
     fn piece(&mut self, piece: &Piece) -> Result<bool, Difference> {
         match piece {
             Piece::Run(turns) => self.run(*turns)?,
+            Piece::Drivers => self.drivers()?,
             Piece::Name(_) => return Ok(true),
             Piece::Build(names, system) => self.build(names, *system)?,
             Piece::Record(record) => {

@@ -1,7 +1,7 @@
 //! Records and answers in words, for reports.
 
 use crate::list::Piece;
-use crate::model::{Answer, Name, Refusal};
+use crate::model::{Answer, Drivers, Line, Name, Refusal};
 use crate::script::{self, Call};
 
 fn switch(value: u8) -> String {
@@ -41,6 +41,7 @@ pub fn name(name: Name) -> String {
 pub fn piece(bytes: &[u8]) -> String {
     match Piece::of(bytes) {
         Piece::Run(turns) => format!("run of {turns} turns"),
+        Piece::Drivers => "drivers".to_string(),
         Piece::Name(party) => format!("a party named {}", name(party)),
         Piece::Build(_, system) => format!("build of those named, system party {system}"),
         Piece::Record(record) if !script::has_mark(&record) => "wrong mark".to_string(),
@@ -67,4 +68,13 @@ pub fn answer(answer: &Answer) -> String {
         Refusal::Accepted => text,
         refusal => format!("{text} ({})", Refusal::WORDS[refusal as usize]),
     }
+}
+
+/// Each line's mask in hexadecimal, with its count.
+pub fn drivers(drivers: &Drivers) -> String {
+    let line = |line: Line| {
+        let (mask, count) = (drivers.mask(line), drivers.count(line));
+        format!("{} {mask:04x} {count}", Line::WORDS[line as usize])
+    };
+    Line::ALL.map(line).join(", ")
 }

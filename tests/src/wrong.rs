@@ -1,26 +1,30 @@
 //! Machines with one mistake each, for testing the tests.
 
 mod builds;
+mod drivers;
 mod faults;
 mod noacc;
 mod runs;
 mod secondaries;
 
 pub use builds::{BuildFault, BUILD_FAULTS};
+pub use drivers::{DriversFault, Shows, DRIVERS_FAULTS};
 pub use faults::{Fault, FAULTS};
 pub use runs::{RunFault, WrongRun, RUN_FAULTS};
 pub use secondaries::SECONDARY_FAULTS;
 
 use crate::list;
-use crate::model::{Answer, Bus, Name, Turns};
+use crate::model::{Answer, Bus, Drivers, Name, Turns};
 use crate::script::{self, Call, Record, STEP};
-use crate::subject::{try_run_by, Subject};
+use crate::subject::{like_lines_by, try_run_by, Subject};
 
-/// The model, whose bus and answer a fault alters after each call, or whose build is wrong.
+/// The model, whose bus and answer a fault alters after each call, or whose build or call for
+/// drivers is wrong.
 pub struct Wrong {
     pub bus: Bus,
     fault: Fault,
     build: BuildFault,
+    drivers: DriversFault,
 }
 
 impl Wrong {
@@ -29,15 +33,23 @@ impl Wrong {
             bus: Bus::new(),
             fault,
             build: Bus::build_extended,
+            drivers: Bus::drivers,
         }
     }
 
     /// Every call is right but a build with secondaries.
     pub fn building(build: BuildFault) -> Wrong {
         Wrong {
-            bus: Bus::new(),
-            fault: |_, _, _, _| {},
             build,
+            ..Wrong::new(|_, _, _, _| {})
+        }
+    }
+
+    /// Every call is right but that for drivers.
+    pub fn driven(drivers: DriversFault) -> Wrong {
+        Wrong {
+            drivers,
+            ..Wrong::new(|_, _, _, _| {})
         }
     }
 
@@ -117,6 +129,14 @@ impl Subject for Wrong {
         let run = |bus: &mut Bus| faulty_steps(bus, self.fault, turns);
         let step = |bus: &mut Bus, party| faulty_step(bus, self.fault, party);
         try_run_by(&self.bus, order, run, step)
+    }
+
+    fn drivers(&mut self) -> Drivers {
+        (self.drivers)(&mut self.bus)
+    }
+
+    fn drivers_like_lines(&self) -> bool {
+        like_lines_by(&self.bus, self.drivers, Bus::lines)
     }
 
     fn record(&mut self, record: Record) -> Answer {

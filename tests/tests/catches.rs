@@ -5,7 +5,7 @@ mod common;
 use common::{first_finding, ledger_says, records};
 use meskvorn_tests::compare::{Comparison, Difference};
 use meskvorn_tests::guided::Guided;
-use meskvorn_tests::model::{Answer, Name, Turns};
+use meskvorn_tests::model::{Answer, Drivers, Name, Turns};
 use meskvorn_tests::script::{Call, LINES, RECORD};
 use meskvorn_tests::subject::{ModelSubject, Subject};
 use meskvorn_tests::wrong::{Wrong, FAULTS};
@@ -147,6 +147,12 @@ impl Subject for WrongText {
     fn try_run(&self, turns: u16, order: &[u8]) -> (Vec<Answer>, bool) {
         self.0.try_run(turns, order)
     }
+    fn drivers(&mut self) -> Drivers {
+        self.0.drivers()
+    }
+    fn drivers_like_lines(&self) -> bool {
+        self.0.drivers_like_lines()
+    }
 }
 
 #[test]
@@ -195,6 +201,12 @@ impl Subject for WrongByNumber {
     }
     fn try_run(&self, turns: u16, order: &[u8]) -> (Vec<Answer>, bool) {
         self.model.try_run(turns, order)
+    }
+    fn drivers(&mut self) -> Drivers {
+        self.model.drivers()
+    }
+    fn drivers_like_lines(&self) -> bool {
+        self.model.drivers_like_lines()
     }
 }
 

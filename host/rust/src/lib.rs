@@ -1,10 +1,14 @@
 //! The GPIB bus of document 01 for Rust programs. The calls run in the proved library, which `rt staticlib meskvorn` writes.
 
 mod answer;
+mod drivers;
 mod name;
 
 pub use answer::{Answer, Event, Refusal, Turns, MOST_PARTIES};
+pub use drivers::{Drivers, Line, LineDrivers};
 pub use name::Name;
+
+use drivers::LINES;
 
 const ROW: usize = 24;
 
@@ -24,6 +28,7 @@ extern "C" {
     ) -> u64;
     fn meskvorn_name(rows: *const Row, party: u8) -> u16;
     fn meskvorn_turns(rows: *mut Row, turns: u16, counts: *mut u16) -> u8;
+    fn meskvorn_drivers(rows: *mut Row, masks: *mut u16, counts: *mut u32) -> u64;
     fn meskvorn_run(script: *const u8, length: usize, out: *mut u8, room: usize) -> usize;
 }
 
@@ -190,6 +195,24 @@ impl Bus {
     /// The lines, as the answer's byte: ATN 128, DAV 64, NDAC 32, NRFD 16, EOI 8, SRQ 4.
     pub fn lines(&mut self) -> Answer {
         self.of_party(Operation::Lines, 0)
+    }
+
+    /// Which parties drive each line, and how many they are. Never refused.
+    pub fn drivers(&mut self) -> Drivers {
+        let (mut masks, mut counts) = ([0; LINES], [0; LINES]);
+        // The rows are this bus's own, and there is an entry for each line.
+        let packed = unsafe {
+            meskvorn_drivers(
+                self.rows.as_mut_ptr(),
+                masks.as_mut_ptr(),
+                counts.as_mut_ptr(),
+            )
+        };
+        Drivers {
+            answer: Answer::of(packed),
+            masks,
+            counts,
+        }
     }
 }
 

@@ -1,8 +1,8 @@
 //! Runs with one mistake each; every single call is right.
 
-use crate::model::{Answer, Bus, Event, Name, Refusal, Turns, Waiting, MOST_PARTIES};
+use crate::model::{Answer, Bus, Drivers, Event, Name, Refusal, Turns, Waiting, MOST_PARTIES};
 use crate::script::{self, Call};
-use crate::subject::{try_run_by, Subject};
+use crate::subject::{like_lines_by, try_run_by, Subject};
 
 /// A run. The number is the machine's to keep between runs, 0 at the start.
 pub type RunFault = fn(&mut Bus, u16, &mut usize) -> Turns;
@@ -155,5 +155,13 @@ impl Subject for WrongRun {
     fn try_run(&self, turns: u16, order: &[u8]) -> (Vec<Answer>, bool) {
         let run = |bus: &mut Bus| (self.fault)(bus, turns, &mut self.kept.clone());
         try_run_by(&self.bus, order, run, Bus::step)
+    }
+
+    fn drivers(&mut self) -> Drivers {
+        self.bus.drivers()
+    }
+
+    fn drivers_like_lines(&self) -> bool {
+        like_lines_by(&self.bus, Bus::drivers, Bus::lines)
     }
 }

@@ -62,15 +62,25 @@ pub fn first_finding(subject: &mut dyn Subject, records: u64) -> Option<Finding>
     edges::run(&mut comparison, 2).err()
 }
 
-/// Runs the wrong machine alone, runs left out; the rule of demand 3 that it breaks, if the ledger
-/// sees one.
+/// What the ledger says of the machine with the fault of that name.
 #[allow(dead_code)]
 pub fn ledger_says(fault: &str, list: &[u8]) -> Option<&'static str> {
-    let mut machine = Wrong::named(fault);
+    ledger_of(&mut Wrong::named(fault), list)
+}
+
+/// Runs a wrong machine alone, runs left out; the rule that it breaks, if the ledger sees one.
+#[allow(dead_code)]
+pub fn ledger_of(machine: &mut Wrong, list: &[u8]) -> Option<&'static str> {
     let mut ledger = Ledger::new();
+    machine.start();
     list::pieces(list).find_map(|piece| {
         let before = machine.bus;
         let (record, answer) = match piece {
+            Piece::Drivers => {
+                let (told, lines) = (machine.drivers(), before.clone().lines());
+                let checked = ledger.check_drivers(&before, &told, lines.byte, &machine.bus);
+                return checked.err();
+            }
             Piece::Record(record) => (record, machine.record(record)),
             Piece::Build(names, system) => {
                 let answer = machine.build_extended(&names, system);
