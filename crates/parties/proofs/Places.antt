@@ -75,6 +75,21 @@ each-each zero f g ps = refl
 each-each (suc n) f g [] = refl
 each-each (suc n) f g (p ∷ ps) = ap (_∷_ (f (g p))) (each-each n f g ps)
 
+-- a part of the parties that a store, or a change of every party, leaves wherever it leaves it of one
+module _ {A : Type 0} (part : Party → A) where
+  pub set-part : (ps : List Party) (i : ℕ) (q : Party) → part q ≡ part (at ps i) → (j : ℕ) → part (at (set ps i q) j) ≡ part (at ps j)
+  set-part [] i q e j = refl
+  set-part (p ∷ ps) zero q e zero = e
+  set-part (p ∷ ps) zero q e (suc j) = refl
+  set-part (p ∷ ps) (suc i) q e zero = refl
+  set-part (p ∷ ps) (suc i) q e (suc j) = set-part ps i q e j
+
+  pub each-part : (n : ℕ) (f : Party → Party) (ps : List Party) → ((p : Party) → part (f p) ≡ part p) → (j : ℕ) → part (at (each n f ps) j) ≡ part (at ps j)
+  each-part zero f ps h j = refl
+  each-part (suc n) f [] h j = refl
+  each-part (suc n) f (p ∷ ps) h zero = h p
+  each-part (suc n) f (p ∷ ps) h (suc j) = each-part n f ps h j
+
 -- some
 pub some-at : (n : ℕ) (f : Party → Bool) (ps : List Party) → f idle ≡ false → (j : ℕ) → j < n → f (at ps j) ≡ true → some n f ps ≡ true
 some-at zero f ps h j l e = absurd (not-suc-le-zero l)

@@ -3,7 +3,7 @@
 use mathlib.Core.Path.{_≡_, refl, sym, ap, _∙_}
 use mathlib.Core.Bool.{Bool, not, _||_}
 use mathlib.Core.List.{List, [], _∷_}
-use Prim.Native.Nat.{ℕ, zero, suc}
+use Prim.Native.Nat.{ℕ}
 use lib.ListN.{getD, set}
 use Rattle.message.specs.Meaning.{address, meaning}
 use Rattle.names.specs.Names.{plain}
@@ -15,6 +15,7 @@ use Rattle.party.specs.Sending.{isSource, isPolled, offer}
 use Rattle.party.specs.Settling.{attended, settled, changeControl}
 use Rattle.party.specs.Clearing.{cleared}
 use Rattle.parties.specs.Places.{at, some, each, otherTalker}
+use Rattle.parties.proofs.Places.{set-part, each-part}
 use Rattle.effect.specs.Words.{isAccepted}
 use Rattle.effect.specs.Calls.{placeOf}
 use Rattle.effect.specs.Stands.{ofCommand}
@@ -37,20 +38,6 @@ use Rattle.steps.specs.Named.{nameAt, Named}
 
 abbrev nameOf : Party → Name
 nameOf p = p .role .name
-
--- what a store and a change of every party leave, wherever they leave it of one party
-set-same : (ps : List Party) (i : ℕ) (q : Party) → nameOf q ≡ nameOf (at ps i) → (j : ℕ) → nameOf (at (set ps i q) j) ≡ nameOf (at ps j)
-set-same [] i q e j = refl
-set-same (p ∷ ps) zero q e zero = e
-set-same (p ∷ ps) zero q e (suc j) = refl
-set-same (p ∷ ps) (suc i) q e zero = refl
-set-same (p ∷ ps) (suc i) q e (suc j) = set-same ps i q e j
-
-each-same : (n : ℕ) (f : Party → Party) (ps : List Party) → ((p : Party) → nameOf (f p) ≡ nameOf p) → (j : ℕ) → nameOf (at (each n f ps) j) ≡ nameOf (at ps j)
-each-same zero f ps h j = refl
-each-same (suc n) f [] h j = refl
-each-same (suc n) f (p ∷ ps) h zero = h p
-each-same (suc n) f (p ∷ ps) h (suc j) = each-same n f ps h j
 
 -- An accepted call leaves its own party's name.
 module _ (p : Party) where
@@ -106,22 +93,22 @@ module _ (p : Party) where
 -- What follows leaves every name.
 module _ (b : Bus) (i : ℕ) (e : Effect) (same : nameOf (e .party) ≡ nameOf (here b i)) where
   settled-same : (t : Bool) (ps : List Party) (j : ℕ) → nameOf (at (each (b .count) (settled t) ps) j) ≡ nameOf (at ps j)
-  settled-same t ps = each-same (b .count) (settled t) ps (λ p. refl)
+  settled-same t ps = each-part nameOf (b .count) (settled t) ps (λ p. refl)
 
   attended-same : (ps : List Party) (j : ℕ) → let t = some (b .count) isActive ps in nameOf (at (each (b .count) (settled t) (each (b .count) (attended t) ps)) j) ≡ nameOf (at ps j)
-  attended-same ps j = let t = some (b .count) isActive ps in settled-same t (each (b .count) (attended t) ps) j ∙ each-same (b .count) (attended t) ps (λ p. refl) j
+  attended-same ps j = let t = some (b .count) isActive ps in settled-same t (each (b .count) (attended t) ps) j ∙ each-part nameOf (b .count) (attended t) ps (λ p. refl) j
 
   followed-same : (x : After) (t : Bool) (j : ℕ) → nameAt (followed x t b i e .bus) j ≡ nameAt b j
-  followed-same after.Settle t j = settled-same t (set (b .parties) i (e .party)) j ∙ set-same (b .parties) i (e .party) same j
+  followed-same after.Settle t j = settled-same t (set (b .parties) i (e .party)) j ∙ set-part nameOf (b .parties) i (e .party) same j
   followed-same (after.Pass k) t j =
       let left = set (b .parties) i (changeControl Idle (e .party)) in
-      let kept = set-same (b .parties) i (changeControl Idle (e .party)) same in
-      attended-same (set left (k .0) (changeControl Active (here b (k .0)))) j ∙ set-same left (k .0) (changeControl Active (here b (k .0))) (sym (kept (k .0))) j ∙ kept j
-  followed-same after.Attend t j = attended-same (set (b .parties) i (e .party)) j ∙ set-same (b .parties) i (e .party) same j
+      let kept = set-part nameOf (b .parties) i (changeControl Idle (e .party)) same in
+      attended-same (set left (k .0) (changeControl Active (here b (k .0)))) j ∙ set-part nameOf left (k .0) (changeControl Active (here b (k .0))) (sym (kept (k .0))) j ∙ kept j
+  followed-same after.Attend t j = attended-same (set (b .parties) i (e .party)) j ∙ set-part nameOf (b .parties) i (e .party) same j
   followed-same after.Clear t j =
       let all = each (b .count) cleared (b .parties) in
-      let kept = each-same (b .count) cleared (b .parties) (λ p. refl) in
-      attended-same (set all i (e .party)) j ∙ set-same all i (e .party) (same ∙ sym (kept i)) j ∙ kept j
+      let kept = each-part nameOf (b .count) cleared (b .parties) (λ p. refl) in
+      attended-same (set all i (e .party)) j ∙ set-part nameOf all i (e .party) (same ∙ sym (kept i)) j ∙ kept j
 
 call-names : (b : Bus) (c : Call) (j : ℕ) → nameAt (m.call b c .bus) j ≡ nameAt b j
 call-names b c j =
