@@ -8,7 +8,7 @@ use Rattle.accepted.specs.Types.{Place, Party, Standby, Active, Lines, F
 use Rattle.accepted.specs.Types.call-of
 use Rattle.effect.specs.Calls.{isOn}
 use Rattle.effect.specs.Effects.{quiet}
-use Rattle.host_calls.specs.HostCalls.{write, read, pollRegister, listenOnly, talkOnly, controlled, drop, reset, clear, tell}
+use Rattle.host_calls.specs.HostCalls.{write, read, pollRegister, secondRequest, listenOnly, talkOnly, controlled, drop, reset, clear, tell}
 
 -- "A source takes the source step, any other party the acceptor step."
 abbrev pub effect : Lines → Found → Standing → Place → Party → Effect
@@ -30,3 +30,4 @@ effectOf l f st p (call-of.Drop i) = drop st p
 effectOf l f st p call-of.Lines = tell l st p
 -- Document 02, Q-4: who drives the lines is told beside the answer (crates/bus/specs/Drivers.antt), which has event none.
 effectOf l f st p call-of.Drivers = quiet 0 st p
+effectOf l f st p (call-of.SecondRequest i on) = secondRequest (isOn on) st p

@@ -36,11 +36,12 @@ pub fn effect_of(c: Call, s: Scan, st: Standing, p: Party) -> Effect
     let l = s.lines;
     let role = p.role;
     let input = p.input;
+    let request = p.request;
     match c {
         Call::Step(i) => stepped(s, st, i, p),
         Call::Write(_, v, e) => Effect::quiet(0, st, p.with_held(Slot::Full(v, is_on(e)))),
         Call::Read(_) => host_calls::taken_out(input, st, p),
-        Call::PollRegister(_, v) => host_calls::registered(v, st, p),
+        Call::PollRegister(_, v) => host_calls::asking(request.with_saved(v), st, p),
         Call::ListenOnly(_, on) => host_calls::listening(is_on(on), l, st, p),
         Call::TalkOnly(_, on) => Effect::quiet(
             0,
@@ -58,5 +59,6 @@ pub fn effect_of(c: Call, s: Scan, st: Standing, p: Party) -> Effect
         Call::Drop(_) => Effect::quiet(p.held_bytes(), st, p.with_held(Slot::Empty)),
         Call::Lines => Effect::does(Said::say(Event::Lines, l.byte(), false, 0), p, st),
         Call::Drivers => Effect::quiet(0, st, p),
+        Call::SecondRequest(_, on) => host_calls::asking(request.with_rsv2(is_on(on)), st, p),
     }
 }

@@ -24,7 +24,7 @@ use Rattle.bus.proofs.Invariant.{Inv, atnOf}
 use Rattle.bus.proofs.Accepting.{known}
 use Rattle.bus.proofs.Summary.{Good, Shape, keeps, puts, ends, breaks}
 use Rattle.bus.proofs.OneParty.{ruled}
-use Rattle.bus.proofs.HostCalls.{write-good, read-good, poll-good, drop-good}
+use Rattle.bus.proofs.HostCalls.{write-good, read-good, poll-good, request-good, drop-good}
 use Rattle.bus.proofs.Switches.{listen-good, talk-good}
 use Rattle.bus.proofs.ControlCalls.{take-good, standby-good, reset-good, clear-good, lines-good, drivers-good}
 use Rattle.bus.proofs.AcceptorStep.{accept-good}
@@ -50,6 +50,7 @@ accepted-good b I (call-of.Reset p) = reset-good b I p
 accepted-good b I (call-of.Drop p) = drop-good b I p
 accepted-good b I call-of.Lines = λ _. lines-good b I
 accepted-good b I call-of.Drivers = λ _. drivers-good b I
+accepted-good b I (call-of.SecondRequest p on) = request-good b I p on
 
 pub call-good : (b : Bus) → Inv b → (c : Call) → Good b c (m.call b c)
 call-good b I c = ruled b c I (refusal (lines b) b c) (m.accepted (lines b) b c) (accepted-good b I c)

@@ -1,11 +1,11 @@
--- The host calls that change nothing that delivery sees: write, read, poll register, drop.
+-- The host calls that change nothing that delivery sees: write, read, poll register, second request, drop.
 -- Assumes nothing.
 use mathlib.Core.Path.{_≡_, refl, sym, _∙_}
 use mathlib.Core.Bool.{Bool, true, false, cond}
 use Prim.Native.Nat.{ℕ, _<_}
 use native.Mathlib.Omega.{arith}
 use Rattle.offer.specs.Offer.{isFull}
-use Rattle.party.specs.Parts.{withHeld, withInput, withRequest}
+use Rattle.party.specs.Parts.{withHeld, withInput}
 use Rattle.role.proofs.Logic.{no}
 use Rattle.bus.specs.Types.{Place, Party, Slot, Empty, Full, Bus}
 use Rattle.bus.specs.Types.ruling
@@ -14,7 +14,7 @@ use Rattle.bus.specs.Types.call-of
 use Rattle.effect.specs.Words.{isAccepted}
 use Rattle.bus.specs.Record.{here, lines}
 use Rattle.effect.specs.Effects.{say, does}
-use Rattle.host_calls.specs.HostCalls.{read, drop}
+use Rattle.host_calls.specs.HostCalls.{read, pollRegister, secondRequest, drop}
 use Rattle.bus.specs.Following.{touch, follow}
 use Rattle.refusals.specs.Refusals.{ofSwitch}
 use Rattle.effect.specs.Calls.{isOn}
@@ -52,7 +52,14 @@ module _ (b : Bus) (I : Inv b) (p : Place) where
       (plainly (here b (p .0)) new refl refl refl refl (λ x. x)) (λ j x. no (cc)) refl refl refl refl
     where
       new : Party
-      new = withRequest (record { live = here b (p .0) .request .live; saved = v; service = here b (p .0) .request .service }) (here b (p .0))
+      new = pollRegister v (b .standing) (here b (p .0)) .party
+
+  pub request-good : (on : ℕ) → isAccepted (refusal (lines b) b (call-of.SecondRequest p on)) ≡ true → Good b (call-of.SecondRequest p on) (accepted (lines b) b (call-of.SecondRequest p on))
+  request-good on ok = plain-good b (call-of.SecondRequest p on) I (p .0) (known b p (ofSwitch on ruling.Accepted) ok .0) (say ev.None 0 false 0) new
+      (plainly (here b (p .0)) new refl refl refl refl (λ x. x)) (λ j x. no (cc)) refl refl refl refl
+    where
+      new : Party
+      new = secondRequest (isOn on) (b .standing) (here b (p .0)) .party
 
   pub drop-good : isAccepted (refusal (lines b) b (call-of.Drop p)) ≡ true → Good b (call-of.Drop p) (accepted (lines b) b (call-of.Drop p))
   drop-good ok = plain-good b (call-of.Drop p) I (p .0) (known b p ruling.Accepted ok .0) (drop (b .standing) (here b (p .0)) .said) (drop (b .standing) (here b (p .0)) .party)

@@ -40,6 +40,7 @@ judge-out (call-of.Reset i) p q t x y s h = refl
 judge-out (call-of.Drop i) p q t x y s h = refl
 judge-out call-of.Lines p q t x y s h = refl
 judge-out call-of.Drivers p q t x y s h = refl
+judge-out (call-of.SecondRequest i on) p q t x y s h = refl
 
 pub judge-seat : (b : Bus) (i : ℕ) (c : Call)
     → judge (isInside (b .count) i) (at (b .parties) (slot i)) (lines b .atn) (isFound (otherTalker (b .count) (slot i) (b .parties))) (sendsCommand i (b .standing)) (eqb i (b .system .0)) c
@@ -68,6 +69,7 @@ seat b (call-of.Reset p) = in-seat (p .0) (b .count) _
 seat b (call-of.Drop p) = in-seat (p .0) (b .count) _
 seat b call-of.Lines = λ _. refl
 seat b call-of.Drivers = λ _. refl
+seat b (call-of.SecondRequest p on) = in-seat (p .0) (b .count) _
 
 -- the sender of what stands, at its slot
 pub left-seat : (t : Bool) (ps : List Party) (st : Standing) → length ps ≡ 15 → left (isSource t (at ps (senderSlot st))) st ≡ deserted t ps st

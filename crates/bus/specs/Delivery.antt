@@ -66,6 +66,7 @@ isWrite (call-of.Reset p) = false
 isWrite (call-of.Drop p) = false
 isWrite call-of.Lines = false
 isWrite call-of.Drivers = false
+isWrite (call-of.SecondRequest p on) = false
 
 -- "Host bytes accepted are the accepted writes."
 abbrev pub wrote : Call → Refusal → ℕ

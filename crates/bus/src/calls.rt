@@ -116,6 +116,13 @@ impl Bus {
         self.call(Call::Lines)
     }
 
+    // The second request bit, which asks for service until a status byte has answered it.
+    pub fn second_request(self, p: Place, on: u8) -> Answer
+        ensures { λ r. ⌜ r ≡ call self (Call.SecondRequest p on) ⌝ }
+    {
+        self.call(Call::SecondRequest(p, on))
+    }
+
     // Who drives each line, and how many.
     pub fn drivers(self) -> Drivers
         ensures { λ r. ⌜ r ≡ drivers self ⌝ }

@@ -22,6 +22,7 @@ placeOf (call-of.Reset p) = p
 placeOf (call-of.Drop p) = p
 placeOf call-of.Lines = place 0
 placeOf call-of.Drivers = place 0
+placeOf (call-of.SecondRequest p on) = p
 
 -- Is the party that a call names there? "lines (no party)"
 abbrev pub isKnown : Call → Bool → Bool
@@ -38,6 +39,7 @@ isKnown (call-of.Reset p) inside = inside
 isKnown (call-of.Drop p) inside = inside
 isKnown call-of.Lines inside = true
 isKnown call-of.Drivers inside = true
+isKnown (call-of.SecondRequest p on) inside = inside
 
 abbrev pub isOn : ℕ → Bool
 isOn x = eqb x 1

@@ -45,6 +45,7 @@ impl Call {
             Call::Drop(p) => p,
             Call::Lines => Place(0),
             Call::Drivers => Place(0),
+            Call::SecondRequest(p, _) => p,
         }
     }
 
@@ -66,6 +67,7 @@ impl Call {
             Call::Drop(_) => inside,
             Call::Lines => true,
             Call::Drivers => true,
+            Call::SecondRequest(_, _) => inside,
         }
     }
 }

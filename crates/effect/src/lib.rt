@@ -49,6 +49,7 @@ pub enum Call {
     Drop(Place),
     Lines,
     Drivers,
+    SecondRequest(Place, u8),
 }
 
 // What an answer says beside its refusal, its broken count and the bus.

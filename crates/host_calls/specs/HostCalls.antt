@@ -4,11 +4,12 @@ use Prim.Native.Nat.{ℕ}
 use mathlib.Core.Bool.{Bool, false, cond}
 use Rattle.party.specs.Parts.{heldBytes, withRole, withAcceptor, withHeld, withInput, withRequest}
 use Rattle.role.specs.Roles.{withFlags}
+use Rattle.service.specs.Service.{withSaved, withRsv2}
 use Rattle.party.specs.Driving.{isActive}
 use Rattle.party.specs.Clearing.{wiped, cleared}
 use Rattle.party.specs.Settling.{changeControl}
 use Rattle.parties.specs.Lines.{linesByte}
-use Rattle.host_calls.specs.Types.{Party, Acceptor, Aids, Anrs, Awns, Control, Active, Slot, Empty, Full, Lines, Standing, Effect}
+use Rattle.host_calls.specs.Types.{Request, Party, Acceptor, Aids, Anrs, Awns, Control, Active, Slot, Empty, Full, Lines, Standing, Effect}
 use Rattle.host_calls.specs.Types.ev
 use Rattle.host_calls.specs.Types.after
 use Rattle.effect.specs.Effects.{say, does, then, stay, quiet}
@@ -22,9 +23,17 @@ abbrev pub read : Slot → Standing → Party → Effect
 read Empty st p = stay st p
 read (Full v e) st p = does (say ev.Read v e 0) (withInput Empty p) st
 
+-- A call that writes of its party the request for service alone.
+abbrev pub asking : Request → Standing → Party → Effect
+asking q st p = quiet 0 st (withRequest q p)
+
 -- "Poll register: sets saved."
 abbrev pub pollRegister : ℕ → Standing → Party → Effect
-pollRegister v st p = quiet 0 st (withRequest (record { live = p .request .live; saved = v; service = p .request .service }) p)
+pollRegister v st p = asking (withSaved v (p .request)) st p
+
+-- "A new host call switches it with 0 or 1." (document 02, Q-5)
+abbrev pub secondRequest : Bool → Standing → Party → Effect
+secondRequest on st p = asking (withRsv2 on (p .request)) st p
 
 -- "the acceptor goes to AWNS when DAV is true, else ANRS"
 abbrev pub joining : Bool → Acceptor

@@ -1,6 +1,6 @@
 // What the host's calls do to their own party, once they are accepted.
 ghost use mathlib.Core.Path.{_≡_};
-ghost use Rattle.host_calls.specs.HostCalls.{read, pollRegister, listenAcceptor, listenOnly, controlled, resetAcceptor, reset};
+ghost use Rattle.host_calls.specs.HostCalls.{read, asking, listenAcceptor, listenOnly, controlled, resetAcceptor, reset};
 use effect::After;
 use effect::Effect;
 use effect::Said;
@@ -26,16 +26,10 @@ pub fn taken_out(input: Slot, st: Standing, p: Party) -> Effect
     }
 }
 
-pub fn registered(v: u8, st: Standing, p: Party) -> Effect
-    ensures { λ r. ⌜ r ≡ pollRegister v st p ⌝ }
+// The poll register is written, or the second request bit switched.
+pub fn asking(request: Request, st: Standing, p: Party) -> Effect
+    ensures { λ r. ⌜ r ≡ asking request st p ⌝ }
 {
-    let was = p.request;
-    let service = was.service;
-    let request = Request {
-        live: was.live,
-        saved: v,
-        service,
-    };
     Effect::quiet(0, st, p.with_request(request))
 }
 

@@ -102,7 +102,8 @@ rowOf p =
     ∷ one (hasSecondary (p .role .name .secondary))
     ∷ secondaryNumber (p .role .name .secondary)
     ∷ markNumber (p .role .mark)
-    ∷ 0 ∷ 0 ∷ 0 ∷ 0 ∷ 0 ∷ []
+    ∷ one (p .request .rsv2)
+    ∷ 0 ∷ 0 ∷ 0 ∷ 0 ∷ []
 
 -- The last row: the number of parties, the system party, and what stands.
 abbrev pub lastRow : Bus → List ℕ
@@ -173,7 +174,7 @@ partyOf r = record {
   acceptor = acceptorOf (byteAt r 6);
   held = slotOf (byteAt r 7) (byteAt r 8) (byteAt r 9);
   input = slotOf (byteAt r 10) (byteAt r 11) (byteAt r 12);
-  request = record { live = byteAt r 13; saved = byteAt r 14; service = serviceOf (byteAt r 15) };
+  request = record { live = byteAt r 13; saved = byteAt r 14; rsv2 = flag (byteAt r 19); service = serviceOf (byteAt r 15) };
 }
 
 -- The bus with these parties, and the rest from the last row.

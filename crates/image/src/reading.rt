@@ -143,6 +143,7 @@ fn party_of(row: [u8; 24]) -> Party
     let request = Request {
         live: row[13],
         saved: row[14],
+        rsv2: flag(row[19]),
         service: service_of(row[15]),
     };
     Party {

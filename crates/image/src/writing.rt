@@ -191,7 +191,7 @@ fn row_of(p: Party) -> [u8; 24]
         one(has_secondary(secondary)),
         secondary_number(secondary),
         mark_number(mark),
-        0,
+        one(request.rsv2),
         0,
         0,
         0,

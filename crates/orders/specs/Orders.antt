@@ -16,7 +16,7 @@ use Rattle.orders.specs.declared.Order.{Order}
 use Rattle.orders.specs.declared.Order.the-variants as order
 
 -- "Operations, decimal: 0 build (system party; value parties with addresses extra, extra+1, ..), 1 step, 2 write (extra END), 3 read, 4 poll register,
--- 5 listen-only, 6 talk-only, 7 take control, 8 standby, 9 clear, 10 reset, 11 drop, 12 lines (no party). Unused fields are ignored."
+-- 5 listen-only, 6 talk-only, 7 take control, 8 standby, 9 clear, 10 reset, 11 drop, 12 lines (no party). Unused fields are ignored." Document 02, Q-5: 13 second request.
 unfoldable pub orderOf : ℕ → ℕ → ℕ → ℕ → Order
 orderOf op party value extra =
     cond (eqb op 0) (order.Build (place party) value extra) (
@@ -31,7 +31,8 @@ orderOf op party value extra =
     cond (eqb op 9) (order.Call (call-of.InterfaceClear (place party))) (
     cond (eqb op 10) (order.Call (call-of.Reset (place party))) (
     cond (eqb op 11) (order.Call (call-of.Drop (place party))) (
-    cond (eqb op 12) (order.Call call-of.Lines) order.Unknown))))))))))))
+    cond (eqb op 12) (order.Call call-of.Lines) (
+    cond (eqb op 13) (order.Call (call-of.SecondRequest (place party) value)) order.Unknown)))))))))))))
 
 -- n numbers from a on: "extra, extra+1, .."
 unfoldable pub countUp : ℕ → ℕ → List ℕ

@@ -33,6 +33,7 @@ pub fn order_of(op: u8, party: u8, value: u8, extra: u8) -> Order
         10 => Order::Call(Call::Reset(Place(party))),
         11 => Order::Call(Call::Drop(Place(party))),
         12 => Order::Call(Call::Lines),
+        13 => Order::Call(Call::SecondRequest(Place(party), value)),
         _ => Order::Unknown,
     }
 }

@@ -9,7 +9,7 @@ use Rattle.party.specs.Parts.{newborn}
 use Rattle.party.specs.Driving.{isActive}
 use Rattle.party.specs.Sending.{isSource, isPolled}
 use Rattle.party.specs.Settling.{attended, sourceSettled, settled}
-use Rattle.service.specs.Service.{serviceSettled, rsv, liveSettled}
+use Rattle.service.specs.Service.{serviceSettled, asks, liveSettled}
 use Rattle.role.proofs.Logic.{no}
 use Rattle.role.proofs.Roles.{marked}
 
@@ -51,7 +51,7 @@ settled-other t p h = rw h
 
 -- settling twice is settling once
 pub settled-twice : (t : Bool) (p : Party) → settled t (settled t p) ≡ settled t p
-settled-twice t p = rw (src (isSource t p) (p .source), live (isPolled t p) (p .request .live) (p .request .saved), serve (p .request .service) (rsv (liveSettled (isPolled t p) (p .request))) (isPolled t p)) refl
+settled-twice t p = rw (src (isSource t p) (p .source), live (isPolled t p) (p .request .live) (p .request .saved), serve (p .request .service) (asks (liveSettled (isPolled t p) (p .request)) (p .request .rsv2)) (isPolled t p)) refl
   where
     src : (x : Bool) (s : Source) → sourceSettled x (sourceSettled x s) ≡ sourceSettled x s
     src true Sids = refl

@@ -17,7 +17,7 @@ newborn n = record {
   acceptor = Aids;
   held = Empty;
   input = Empty;
-  request = record { live = 0; saved = 0; service = Nprs };
+  request = record { live = 0; saved = 0; rsv2 = false; service = Nprs };
 }
 
 -- The idle party: "its address is 0".

@@ -1,10 +1,10 @@
 -- What a source offers, and what putting it leaves of the party (document 01, "Source step").
 -- Assumes nothing.
 use mathlib.Core.Bool.{Bool, false, not, cond, _&&_, _||_}
-use Rattle.service.specs.Service.{status}
+use Rattle.service.specs.Service.{status, reported}
 use Rattle.offer.specs.Offer.{spent}
-use Rattle.party.specs.Types.{Party, Slot, Full, Kind, Strs}
-use Rattle.party.specs.Parts.{withSource, withHeld}
+use Rattle.party.specs.Types.{Party, Slot, Full, Kind, Command, Data, Status, Request, Strs}
+use Rattle.party.specs.Parts.{withSource, withHeld, withRequest}
 use Rattle.party.specs.Driving.{isActive}
 
 -- "A party is a source if it is active, or if ATN is false and talk is on."
@@ -19,6 +19,12 @@ isPolled atn p = not atn && p .role .talk && p .role .poll
 abbrev pub offer : Bool → Party → Slot
 offer polled p = cond polled (Full (status (p .request)) false) (p .held)
 
+-- The request once a byte of this kind is put: a status byte reports it (document 02, Q-5).
+abbrev pub requestParted : Kind → Request → Request
+requestParted Command q = q
+requestParted Data q = q
+requestParted Status q = reported q
+
 -- The sender once it has put its byte. "put: to STRS, the byte stands, and leaves the held register if it came from there"
 abbrev pub parted : Kind → Party → Party
-parted k p = withSource Strs (withHeld (spent k (p .held)) p)
+parted k p = withSource Strs (withHeld (spent k (p .held)) (withRequest (requestParted k (p .request)) p))

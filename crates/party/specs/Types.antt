@@ -10,6 +10,7 @@ pub use Rattle.service.specs.declared.Service.the-variants.{Nprs, Srqs, Aprs}
 pub use Rattle.offer.specs.declared.Slot.{Slot}
 pub use Rattle.offer.specs.declared.Slot.the-variants.{Empty, Full}
 pub use Rattle.offer.specs.declared.Kind.{Kind}
+pub use Rattle.offer.specs.declared.Kind.the-variants.{Command, Data, Status}
 pub use Rattle.names.specs.declared.Name.{Name}
 pub use Rattle.role.specs.declared.Mark.the-variants.{Unmarked}
 pub use Rattle.role.specs.declared.Role.{Role}

@@ -38,8 +38,11 @@ impl Party {
     {
         let role = self.role;
         let name = role.name;
-        let p = self.with_input(Slot::Empty).with_held(Slot::Empty);
-        p.with_control(Control::Idle)
+        let request = self.request;
+        let p = self.with_request(request.with_rsv2(false))
+            .with_input(Slot::Empty);
+        p.with_held(Slot::Empty)
+            .with_control(Control::Idle)
             .with_role(Role::unaddressed(name))
     }
 

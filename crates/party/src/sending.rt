@@ -1,11 +1,23 @@
 // What a source offers, and what putting and dropping it leave of the party.
 ghost use mathlib.Core.Path.{_≡_};
-ghost use Rattle.party.specs.Sending.{isSource, isPolled, offer, parted};
+ghost use Rattle.party.specs.Sending.{isSource, isPolled, offer, requestParted, parted};
 ghost use Rattle.service.specs.Service.{status};
 use crate::Party;
 use crate::Source;
 use offer::Kind;
 use offer::Slot;
+use service::Request;
+
+// The request once a byte of this kind is put: a status byte reports it.
+fn after_put(kind: Kind, request: Request) -> Request
+    ensures { λ r. ⌜ r ≡ requestParted kind request ⌝ }
+{
+    match kind {
+        Kind::Command => request,
+        Kind::Data => request,
+        Kind::Status => request.reported(),
+    }
+}
 
 impl Party {
     pub fn is_source(self, atn: bool) -> bool
@@ -51,6 +63,9 @@ impl Party {
         ensures { λ r. ⌜ r ≡ parted kind self ⌝ }
     {
         let held = self.held;
-        self.with_held(kind.spends(held)).with_source(Source::Strs)
+        let request = self.request;
+        self.with_request(after_put(kind, request))
+            .with_held(kind.spends(held))
+            .with_source(Source::Strs)
     }
 }

@@ -56,6 +56,7 @@ own p atn another sends chief (call-of.Reset i) = cond sends ruling.Standing rul
 own p atn another sends chief (call-of.Drop i) = ruling.Accepted
 own p atn another sends chief call-of.Lines = ruling.Accepted
 own p atn another sends chief call-of.Drivers = ruling.Accepted
+own p atn another sends chief (call-of.SecondRequest i on) = ofSwitch on ruling.Accepted
 
 -- "Order: .. 1, values, then 4 to 9."
 abbrev pub judge : Bool → Party → Bool → Bool → Bool → Bool → Call → Refusal

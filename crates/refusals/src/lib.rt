@@ -114,6 +114,7 @@ fn met(c: Call, p: Party, atn: bool, another: bool, sends: bool, chief: bool) ->
         Call::Drop(_) => Refusal::Accepted,
         Call::Lines => Refusal::Accepted,
         Call::Drivers => Refusal::Accepted,
+        Call::SecondRequest(_, on) => when(1 < on, Refusal::BadValue, Refusal::Accepted),
     }
 }
 

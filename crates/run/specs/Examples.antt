@@ -1,4 +1,5 @@
--- Scripts with the text that document 01 asks for, byte by byte: its own script, an empty one, a wrong mark, a short tail and an unknown operation.
+-- Scripts with the text that document 01 asks for, byte by byte: its own script, an empty one, a wrong mark, a short tail, an unknown operation, and
+-- the second request bit of document 02, Q-5, with its refusals.
 -- Assumes nothing.
 use Prim.Native.Nat.{ℕ}
 use mathlib.Core.Path.{_≡_}
@@ -20,4 +21,5 @@ pub record Holds : Type 0 where
   pub empty : textOf [] ≡ []
   pub wrong-mark : textOf (rec 0 0 1 5 (0x47 ∷ 0x43 ∷ 1 ∷ 0 ∷ 0 ∷ 0 ∷ rec 1 0 0 0 [])) ≡ codes "1 0 none -- 0 0 0\n2 10 none -- 0 0 0\n"
   pub short-tail : textOf (rec 12 0 0 0 (0x47 ∷ 0x42 ∷ 1 ∷ [])) ≡ codes "1 0 lines 00 0 0 0\n2 10 none -- 0 0 0\n"
-  pub unknown : textOf (rec 13 0 0 0 (rec 0 0 16 0 [])) ≡ codes "1 3 none -- 0 0 0\n2 2 none -- 0 0 0\n"
+  pub unknown : textOf (rec 14 0 0 0 (rec 0 0 16 0 [])) ≡ codes "1 3 none -- 0 0 0\n2 2 none -- 0 0 0\n"
+  pub second-request : textOf (rec 0 0 2 5 (rec 13 1 1 9 (rec 12 0 0 0 (rec 13 1 2 0 (rec 13 2 2 0 []))))) ≡ codes "1 0 none -- 0 0 0\n2 0 none -- 0 0 0\n3 0 lines 04 0 0 0\n4 3 none -- 0 0 0\n5 1 none -- 0 0 0\n"

@@ -53,6 +53,7 @@ isStepOf k (call-of.Reset p) = false
 isStepOf k (call-of.Drop p) = false
 isStepOf k call-of.Lines = false
 isStepOf k call-of.Drivers = false
+isStepOf k (call-of.SecondRequest p on) = false
 
 abbrev pub Counts : Type 0
 Counts = (tie : TieOrder) (b : Bus) (t k : ℕ) → k < 15 → getD (runner tie b t .counts) k 0 ≡ tally (λ x. one (isStepOf k (x .call))) (history b (steps (turnsOf tie b t)))

@@ -1,7 +1,7 @@
-// The request for service: the poll register with the service state, and how it settles.
+// The request for service: the poll register, the second request bit and the service state; how it settles, and what a status byte leaves of it.
 ghost use mathlib.Core.Path.{_≡_};
 ghost use Prim.Native.Nat.{_≤_};
-ghost use Rattle.service.specs.Service.{aprsBit, status, serviceSettled, liveSettled, requestSettled};
+ghost use Rattle.service.specs.Service.{aprsBit, status, serviceSettled, liveSettled, requestSettled, withSaved, withRsv2, rsv2Kept, reported};
 
 // The service request.
 pub enum Service {
@@ -10,10 +10,12 @@ pub enum Service {
     Aprs,
 }
 
-// The poll register, live and saved, and the service state.
+// The poll register, live and saved, the second request bit, and the service state.
 pub struct Request {
     pub live: u8,
     pub saved: u8,
+    // Document 02, Q-5: the chip's rsv2, which is cleared when a status byte has answered it.
+    pub rsv2: bool,
     pub service: Service,
 }
 
@@ -25,6 +27,17 @@ impl Service {
             Service::Nprs => 0,
             Service::Srqs => 0,
             Service::Aprs => 64,
+        }
+    }
+
+    // What is left of the second request bit once a status byte is put in this state.
+    fn keeps_rsv2(self, rsv2: bool) -> bool
+        ensures { λ r. ⌜ r ≡ rsv2Kept self rsv2 ⌝ }
+    {
+        match self {
+            Service::Nprs => rsv2,
+            Service::Srqs => rsv2,
+            Service::Aprs => false,
         }
     }
 
@@ -65,6 +78,7 @@ impl Request {
     pub const IDLE: Request = Request {
         live: 0,
         saved: 0,
+        rsv2: false,
         service: Service::Nprs,
     };
 
@@ -84,17 +98,62 @@ impl Request {
         if polled { self.live } else { self.saved }
     }
 
-    // Then rsv, bit 64 of live, moves the service.
+    // Then bit 64 of live, or the second request bit, moves the service.
     pub fn settled(self, polled: bool) -> Request
         ensures { λ r. ⌜ r ≡ requestSettled polled self ⌝ }
     {
         let before = self.service;
+        let rsv2 = self.rsv2;
         let live = self.live_settled(polled);
-        let service = before.settled(live / 64 % 2 == 1, polled);
+        let service = before.settled((live / 64 % 2 == 1) | rsv2, polled);
         Request {
             live,
             saved: self.saved,
+            rsv2,
             service,
         }
+    }
+
+    // The poll register is written.
+    pub fn with_saved(self, saved: u8) -> Request
+        ensures { λ r. ⌜ r ≡ withSaved saved self ⌝ }
+    {
+        let Request {
+            live,
+            saved: _,
+            rsv2,
+            service,
+        } = self;
+        Request {
+            live,
+            saved,
+            rsv2,
+            service,
+        }
+    }
+
+    pub fn with_rsv2(self, rsv2: bool) -> Request
+        ensures { λ r. ⌜ r ≡ withRsv2 rsv2 self ⌝ }
+    {
+        let Request {
+            live,
+            saved,
+            rsv2: _,
+            service,
+        } = self;
+        Request {
+            live,
+            saved,
+            rsv2,
+            service,
+        }
+    }
+
+    // The request once its status byte is put: in APRS it has been answered.
+    pub fn reported(self) -> Request
+        ensures { λ r. ⌜ r ≡ reported self ⌝ }
+    {
+        let service = self.service;
+        self.with_rsv2(service.keeps_rsv2(self.rsv2))
     }
 }

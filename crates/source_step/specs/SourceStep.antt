@@ -15,7 +15,7 @@ use Rattle.source_step.specs.Types.after
 use Rattle.effect.specs.Stands.{ofCommand}
 use Rattle.effect.specs.Effects.{say, does, stay, move}
 
--- "put: to STRS, the byte stands"
+-- "put: to STRS, the byte stands". Document 02, Q-5: "Putting a status byte in APRS clears rsv2 in that same step", which `parted` has.
 abbrev pub put : Kind → ℕ → Bool → Place → Party → Effect
 put k v e i p = does (say (putEvent k) v (endOf k e) 0) (parted k p) (Byte i k v (endOf k e))
 

@@ -89,6 +89,7 @@ module _ (p : Party) where
   effect-same l f st (call-of.Drop i) = refl
   effect-same l f st call-of.Lines = refl
   effect-same l f st call-of.Drivers = refl
+  effect-same l f st (call-of.SecondRequest i on) = refl
 
 -- What follows leaves every name.
 module _ (b : Bus) (i : ℕ) (e : Effect) (same : nameOf (e .party) ≡ nameOf (here b i)) where

@@ -29,8 +29,11 @@ taken-out-requires c κs = search needs
 enum-known-c-3 : tie.Need-enum-known-c-3
 enum-known-c-3 c = search needs
 
-registered-requires : tie.Need-registered-requires
-registered-requires c κs = search needs
+with-saved-requires : tie.Need-with-saved-requires
+with-saved-requires c κs = search needs
+
+asking-requires : tie.Need-asking-requires
+asking-requires c κs = search needs
 
 enum-known-c-4 : tie.Need-enum-known-c-4
 enum-known-c-4 c = search needs
@@ -119,6 +122,18 @@ enum-told-8 c = search needs
 quiet-requires-5 : tie.Need-quiet-requires-5
 quiet-requires-5 c κs = search needs
 
+enum-known-c-6 : tie.Need-enum-known-c-6
+enum-known-c-6 c = search needs
+
+is-on-requires-4 : tie.Need-is-on-requires-4
+is-on-requires-4 c κs = search needs
+
+with-rsv2-requires : tie.Need-with-rsv2-requires
+with-rsv2-requires c κs = search needs
+
+asking-requires-2 : tie.Need-asking-requires-2
+asking-requires-2 c κs = search needs
+
 returns : tie.Need-returns
 returns c =
     simp (
@@ -145,8 +160,9 @@ returns-3 c =
 returns-4 : tie.Need-returns-4
 returns-4 c =
     simp (
-      c .registered .ensures,
-      c .before .before .c3 .given .1,
+      c .asking .ensures,
+      c .before .with-saved .ensures,
+      c .before .before .before .c3 .given .1,
     )
 
 returns-5 : tie.Need-returns-5
@@ -223,6 +239,15 @@ returns-13 c =
       c .before .enum-told8 .given .1,
     )
 
+returns-14 : tie.Need-returns-14
+returns-14 c =
+    simp (
+      c .asking2 .ensures,
+      c .before .with-rsv2 .ensures,
+      c .before .before .is-on4 .ensures,
+      c .before .before .before .before .c6 .given .1,
+    )
+
 pub effect-of-spec : {M : Type 1} → statement M
 effect-of-spec =
     tie.close
@@ -236,7 +261,8 @@ effect-of-spec =
     enum-told
     taken-out-requires
     enum-known-c-3
-    registered-requires
+    with-saved-requires
+    asking-requires
     enum-known-c-4
     is-on-requires-2
     listening-requires
@@ -266,6 +292,10 @@ effect-of-spec =
     does-requires
     enum-told-8
     quiet-requires-5
+    enum-known-c-6
+    is-on-requires-4
+    with-rsv2-requires
+    asking-requires-2
     returns
     returns-2
     returns-3
@@ -278,4 +308,5 @@ effect-of-spec =
     returns-10
     returns-11
     returns-12
-    returns-13)
+    returns-13
+    returns-14)

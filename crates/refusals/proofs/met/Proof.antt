@@ -92,6 +92,12 @@ enum-told-9 c = search needs
 enum-told-10 : tie.Need-enum-told-10
 enum-told-10 c = search needs
 
+enum-known-c-4 : tie.Need-enum-known-c-4
+enum-known-c-4 c = search needs
+
+when-requires-9 : tie.Need-when-requires-9
+when-requires-9 c κs = search needs
+
 returns : tie.Need-returns
 returns c =
     simp (c .enum-told .given .1)
@@ -177,6 +183,13 @@ returns-13 : tie.Need-returns-13
 returns-13 c =
     simp (c .enum-told10 .given .1)
 
+returns-14 : tie.Need-returns-14
+returns-14 c =
+    simp (
+      c .when9 .ensures,
+      c .before .before .c4 .given .1,
+    )
+
 pub met-spec : {M : Type 1} → statement M
 met-spec =
     tie.close
@@ -211,6 +224,8 @@ met-spec =
     enum-told-8
     enum-told-9
     enum-told-10
+    enum-known-c-4
+    when-requires-9
     returns
     returns-2
     returns-3
@@ -223,4 +238,5 @@ met-spec =
     returns-10
     returns-11
     returns-12
-    returns-13)
+    returns-13
+    returns-14)

@@ -41,6 +41,9 @@ enum-told c = search needs
 enum-told-2 : tie.Need-enum-told-2
 enum-told-2 c = search needs
 
+enum-known-self-12 : tie.Need-enum-known-self-12
+enum-known-self-12 c = search needs
+
 returns : tie.Need-returns
 returns c = search needs
 
@@ -82,6 +85,9 @@ returns-13 : tie.Need-returns-13
 returns-13 c =
     simp (c .enum-told2 .given .1)
 
+returns-14 : tie.Need-returns-14
+returns-14 c = search needs
+
 pub place-spec : {M : Type 1} → statement M
 place-spec =
     tie.close
@@ -99,6 +105,7 @@ place-spec =
     enum-known-self-11
     enum-told
     enum-told-2
+    enum-known-self-12
     returns
     returns-2
     returns-3
@@ -111,4 +118,5 @@ place-spec =
     returns-10
     returns-11
     returns-12
-    returns-13)
+    returns-13
+    returns-14)

@@ -11,6 +11,12 @@ array-read-control-of c = search needs
 array-read-acceptor-of : tie.Need-array-read-acceptor-of
 array-read-acceptor-of c = search needs
 
+array-read-flag : tie.Need-array-read-flag
+array-read-flag c = search needs
+
+flag-requires : tie.Need-flag-requires
+flag-requires c κs = search needs
+
 array-read-service-of : tie.Need-array-read-service-of
 array-read-service-of c = search needs
 
@@ -68,7 +74,8 @@ returns c =
       c .before .before .before .source-of .ensures,
       c .before .before .before .before .control-of .ensures,
       c .before .before .before .before .before .service-of .ensures,
-      c .before .before .before .before .before .before .role-of .ensures,
+      c .before .before .before .before .before .before .flag .ensures,
+      c .before .before .before .before .before .before .before .role-of .ensures,
     )
 
 pub party-of-spec : {M : Type 1} → statement M
@@ -78,6 +85,8 @@ party-of-spec =
     role-of-requires
     array-read-control-of
     array-read-acceptor-of
+    array-read-flag
+    flag-requires
     array-read-service-of
     service-of-requires
     array-read-control-of-2

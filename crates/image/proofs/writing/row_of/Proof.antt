@@ -68,9 +68,12 @@ secondary-number-requires c κs = search needs
 mark-number-requires : tie.Need-mark-number-requires
 mark-number-requires c κs = search needs
 
+one-requires-9 : tie.Need-one-requires-9
+one-requires-9 c κs = search needs
+
 returns : tie.Need-returns
 returns c =
-    let s = c .before .before .before .before in
+    let s = c .before .before .before .before .before in
     let h = s .before .before .before .before .before .before in
     let k = h .before .before .before .before .before in
     row-by-parts (k .before .before .before .before .before .before .before .before .before .before .args .p)
@@ -87,9 +90,10 @@ returns c =
     (s .before .before .before .slot-value2 .ensures)
     (s .before .one7 .ensures .0 ∙ ap one (s .before .before .slot-end2 .ensures))
     (s .service-number .ensures)
-    (c .before .before .one8 .ensures .0 ∙ ap one (c .before .before .before .has-secondary .ensures))
-    (c .before .secondary-number .ensures)
-    (c .mark-number .ensures)
+    (c .before .before .before .one8 .ensures .0 ∙ ap one (c .before .before .before .before .has-secondary .ensures))
+    (c .before .before .secondary-number .ensures)
+    (c .before .mark-number .ensures)
+    (c .one9 .ensures .0)
 
 pub row-of-spec : {M : Type 1} → statement M
 row-of-spec =
@@ -116,4 +120,5 @@ row-of-spec =
     one-requires-8
     secondary-number-requires
     mark-number-requires
+    one-requires-9
     returns)

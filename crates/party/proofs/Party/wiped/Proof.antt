@@ -2,6 +2,12 @@ use borrow.Author.Needs.{needs}
 use Rattle.party.proofs.Party.wiped.Statement.{statement}
 use Rattle.party.proofs.Party.wiped.Tie as tie
 
+with-rsv2-requires : tie.Need-with-rsv2-requires
+with-rsv2-requires c κs = search needs
+
+with-request-requires : tie.Need-with-request-requires
+with-request-requires c κs = search needs
+
 with-input-requires : tie.Need-with-input-requires
 with-input-requires c κs = search needs
 
@@ -25,12 +31,16 @@ returns c =
       c .before .before .with-control .ensures,
       c .before .before .before .with-held .ensures,
       c .before .before .before .before .with-input .ensures,
+      c .before .before .before .before .before .with-request .ensures,
+      c .before .before .before .before .before .before .with-rsv2 .ensures,
     )
 
 pub wiped-spec : {M : Type 1} → statement M
 wiped-spec =
     tie.close
     (tie.spec
+    with-rsv2-requires
+    with-request-requires
     with-input-requires
     with-held-requires
     with-control-requires

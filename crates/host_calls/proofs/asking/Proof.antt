@@ -1,6 +1,6 @@
 use borrow.Author.Needs.{needs}
-use Rattle.host_calls.proofs.registered.Statement.{statement}
-use Rattle.host_calls.proofs.registered.Tie as tie
+use Rattle.host_calls.proofs.asking.Statement.{statement}
+use Rattle.host_calls.proofs.asking.Tie as tie
 
 with-request-requires : tie.Need-with-request-requires
 with-request-requires c κs = search needs
@@ -15,5 +15,5 @@ returns c =
       c .before .with-request .ensures,
     )
 
-pub registered-spec : {M : Type 1} → statement M
-registered-spec = tie.close (tie.spec with-request-requires quiet-requires returns)
+pub asking-spec : {M : Type 1} → statement M
+asking-spec = tie.close (tie.spec with-request-requires quiet-requires returns)
