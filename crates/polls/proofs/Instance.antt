@@ -1,0 +1,98 @@
+-- The premises of the condition hold of an example: each call of the list is looked at.
+-- Assumes nothing.
+use mathlib.Core.Path.{_≡_, refl, ap}
+use mathlib.Core.Bool.{Bool, true, false, not, _&&_}
+use mathlib.Core.Logic.{_⊎_, inl, inr}
+use Prim.Native.Nat.{ℕ, zero, suc, _+_, _-_, _<_, _≤_}
+use native.Mathlib.Omega.{arith}
+use lib.Dec.{eqb}
+use borrow.Author.Tests.{eqb-true, eqb-false}
+use Rattle.message.specs.Meaning.{meaning, sevenBits, named}
+use Rattle.service.specs.Service.{rsv}
+use Rattle.role.proofs.Logic.{no}
+use Rattle.bus.specs.Types.{Call}
+use Rattle.bus.specs.Types.call-of
+use Rattle.bus.specs.Delivery.{moment, answerAt}
+use Rattle.polls.specs.Requests.{requestAt, polled, Poll, AsksAt, Left, NoneBetween}
+use Rattle.polls.specs.Examples.{bus, calls, Speaks}
+use Rattle.polls.proofs.Asked.{isStat}
+
+-- what was looked at from a on, n times
+abbrev looked : ℕ → ℕ → (ℕ → Bool) → Bool
+looked a zero f = true
+looked a (suc n) f = f a && looked (suc a) n f
+
+holds : (a n : ℕ) (f : ℕ → Bool) → looked a n f ≡ true → (j : ℕ) → a ≤ j → j < a + n → f j ≡ true
+holds a zero f h j l m = absurd (none l m)
+  where
+    none : a ≤ j → j < a + 0 → ⊥
+    none l m = omega arith
+holds a (suc n) f h j l m = go (λ k. holds (suc a) n f k j) (f a) refl h (eqb j a) refl
+  where
+    go : (looked (suc a) n f ≡ true → suc a ≤ j → j < suc a + n → f j ≡ true) → (x : Bool) → f a ≡ x → (x && looked (suc a) n f) ≡ true → (y : Bool) → eqb j a ≡ y → f j ≡ true
+    go R true e k true g = rw (eqb-true j a g) e
+    go R true e k false g = let ne : (j ≡ a → ⊥) = eqb-false j a g in R k (omega arith) (omega arith)
+    go R false e k y g = no (cc)
+
+-- a call that switches the bit of party 1 or resets it
+abbrev touches : Call → Bool
+touches (call-of.Step p) = false
+touches (call-of.Write p v e) = false
+touches (call-of.Read p) = false
+touches (call-of.PollRegister p v) = false
+touches (call-of.ListenOnly p on) = false
+touches (call-of.TalkOnly p on) = false
+touches (call-of.TakeControl p) = false
+touches (call-of.GoToStandby p) = false
+touches (call-of.InterfaceClear p) = false
+touches (call-of.Reset p) = eqb (p .0) 1
+touches (call-of.Drop p) = false
+touches call-of.Lines = false
+touches call-of.Drivers = false
+touches (call-of.SecondRequest p on) = eqb (p .0) 1
+
+of-false : (x : Bool) → not x ≡ true → x ≡ true → ⊥
+of-false true h e = no (cc)
+of-false false h e = no (cc)
+
+asks : AsksAt bus calls 1 1
+unfolding meaning sevenBits named
+asks = record { there = omega arith; call = refl; accepted = refl; nprs = refl; outside = refl }
+
+poll : Poll bus calls 1 19 36
+unfolding meaning sevenBits named
+poll = record {
+  order = (omega arith, omega arith);
+  unbroken = λ j l m. holds 19 18 (polled bus calls 1) refl j l (omega arith);
+  before = λ j e. let h : j ≡ 18 = omega arith in rw h refl;
+  after = λ _. refl;
+}
+
+none : NoneBetween bus calls 1 1 19
+unfolding meaning sevenBits named
+none j l m t = of-false (isStat (answerAt bus calls j .event)) (holds 2 17 (λ j. not (isStat (answerAt bus calls j .event))) refl j l m) (ap isStat (t .2))
+
+left : Left bus calls 1 1 49
+unfolding meaning sevenBits named
+left = record {
+  untouched = λ k l m t. of-false (touches (moment bus calls k .call)) (holds 2 47 (λ j. not (touches (moment bus calls j .call))) refl k l m) (touched k (t .1));
+  clear = λ k l m. clear-bit (rsv (requestAt bus calls 1 k .live)) (holds 2 48 (λ j. not (rsv (requestAt bus calls 1 j .live))) refl k l (omega arith));
+}
+  where
+    touched : (k : ℕ) → ((on : ℕ) × (moment bus calls k .call ≡ call-of.SecondRequest (record { 0 = 1 }) on)) ⊎ (moment bus calls k .call ≡ call-of.Reset (record { 0 = 1 })) → touches (moment bus calls k .call) ≡ true
+    touched k (inl e) = ap touches (e .1)
+    touched k (inr e) = ap touches e
+
+    clear-bit : (x : Bool) → not x ≡ true → x ≡ false
+    clear-bit true h = no (cc)
+    clear-bit false h = refl
+
+pub speaks : Speaks
+unfolding meaning sevenBits named
+speaks = record {
+  first = record { asks = asks; poll = poll; after = omega arith; none = none; puts = (omega arith, refl, refl); within = (omega arith, omega arith) };
+  second = record { asks = asks; poll = poll; after = omega arith; none = none; puts = (omega arith, refl, refl); within = (omega arith, omega arith) };
+  later = (omega arith, refl, refl);
+  last = (omega arith, refl, refl);
+  left = left;
+}
