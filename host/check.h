@@ -85,6 +85,20 @@ static void expect_at(int line, const char *wanted, meskvorn_answer answer)
 
 #define EXPECT(wanted, call) expect_at(__LINE__, (wanted), (call))
 
+/* What is expected with a byte that comes without END. */
+static inline const char *with_byte(const char *event, uint8_t byte)
+{
+    static char text[64];
+    snprintf(text, sizeof text, "0 %s %02x 0 0 0", event, byte);
+    return text;
+}
+
+static inline void give_turns(uint16_t turns)
+{
+    CHECK(meskvorn_bus_give_turns(bus, turns, NULL) == MESKVORN_REFUSAL_ACCEPTED);
+    last = *bus;
+}
+
 /* Parties at addresses 5, 6, ..; party 0 is the system party. */
 static void build(size_t parties)
 {

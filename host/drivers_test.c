@@ -257,9 +257,9 @@ static void no_parties_and_no_operation(void)
 {
     EXPECT(REFUSED(2), meskvorn_bus_build(bus, addresses, 0, 0));
     EXPECT_DRIVERS(0, 0, 0, 0, 0, 0);
-    EXPECT(REFUSED(3), meskvorn_bus_call(bus, MESKVORN_OPERATION_LINES + 1, 0, 0, 0));
+    EXPECT(REFUSED(3), meskvorn_bus_call(bus, MESKVORN_OPERATION_SECOND_REQUEST + 1, 0, 0, 0));
     stand(2, 1);
-    EXPECT(REFUSED(3), meskvorn_bus_call(bus, MESKVORN_OPERATION_LINES + 1, 0, 0, 0));
+    EXPECT(REFUSED(3), meskvorn_bus_call(bus, MESKVORN_OPERATION_SECOND_REQUEST + 1, 0, 0, 0));
     EXPECT_DRIVERS(0, 1, 0, 2, 1, 0);
 }
 

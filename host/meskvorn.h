@@ -67,7 +67,8 @@ typedef enum meskvorn_operation {
     MESKVORN_OPERATION_INTERFACE_CLEAR = 9,
     MESKVORN_OPERATION_RESET = 10,
     MESKVORN_OPERATION_DROP = 11,
-    MESKVORN_OPERATION_LINES = 12
+    MESKVORN_OPERATION_LINES = 12,
+    MESKVORN_OPERATION_SECOND_REQUEST = 13
 } meskvorn_operation;
 
 /* The bits of the byte that comes with the event lines. */
@@ -131,7 +132,7 @@ typedef struct meskvorn_drivers_answer {
 } meskvorn_drivers_answer;
 
 /* The proved functions. No pointer may be NULL. The first three take the rows of a bus and give the answer as a number: from the low byte up refusal,
- * event, byte, END, dropped, broken. An operation that is none of the twelve is refused with 3. Whatever the rows held, a build leaves the bus that it
+ * event, byte, END, dropped, broken. An operation that is none of the thirteen is refused with 3. Whatever the rows held, a build leaves the bus that it
  * asks for, or the bus of no parties where it is refused. */
 uint64_t meskvorn_call(uint8_t (*rows)[MESKVORN_ROW], uint8_t operation, uint8_t party, uint8_t value, uint8_t extra);
 uint64_t meskvorn_build(uint8_t (*rows)[MESKVORN_ROW], const uint8_t *addresses, size_t count, uint8_t system);
@@ -243,6 +244,12 @@ static inline meskvorn_answer meskvorn_bus_read(meskvorn_bus *bus, uint8_t party
 static inline meskvorn_answer meskvorn_bus_poll_register(meskvorn_bus *bus, uint8_t party, uint8_t value)
 {
     return meskvorn_bus_call(bus, MESKVORN_OPERATION_POLL_REGISTER, party, value, 0);
+}
+
+/* The second request bit, which asks for service too, until a status byte tells of it. on is 0 or 1. */
+static inline meskvorn_answer meskvorn_bus_second_request(meskvorn_bus *bus, uint8_t party, uint8_t on)
+{
+    return meskvorn_bus_call(bus, MESKVORN_OPERATION_SECOND_REQUEST, party, on, 0);
 }
 
 /* on is 0 or 1. */

@@ -17,12 +17,6 @@ static void take_the_bus(void)
     EXPECT(NONE, meskvorn_bus_interface_clear(bus, 0));
 }
 
-static void give_turns(uint16_t turns)
-{
-    CHECK(meskvorn_bus_give_turns(bus, turns, NULL) == MESKVORN_REFUSAL_ACCEPTED);
-    last = *bus;
-}
-
 /* The active party 0 sends one command. Its first, second and fourth turns offer, put and end it. */
 static void command(uint8_t byte)
 {

@@ -135,14 +135,6 @@ static void p8_p9_and_builds(void)
     EXPECT(REFUSED(2), meskvorn_bus_build(bus, NULL, 0, 0));
 }
 
-/* What is expected with a byte that comes without END. */
-static const char *with_byte(const char *event, uint8_t byte)
-{
-    static char text[64];
-    snprintf(text, sizeof text, "0 %s %02x 0 0 0", event, byte);
-    return text;
-}
-
 /* The active party 0 sends a command; party 1 takes it with the event given. The answer is that to its end. */
 static meskvorn_answer command(uint8_t byte, const char *heard)
 {
@@ -215,18 +207,21 @@ static void parties_and_values(void)
 {
     uint8_t operation;
     build(2);
-    for (operation = MESKVORN_OPERATION_STEP; operation < MESKVORN_OPERATION_LINES; operation++) {
-        EXPECT(REFUSED(1), meskvorn_bus_call(bus, operation, 2, 2, 2));
-        EXPECT(REFUSED(1), meskvorn_bus_call(bus, operation, 255, 1, 1));
+    for (operation = MESKVORN_OPERATION_STEP; operation <= MESKVORN_OPERATION_SECOND_REQUEST; operation++) {
+        if (operation != MESKVORN_OPERATION_LINES) {
+            EXPECT(REFUSED(1), meskvorn_bus_call(bus, operation, 2, 2, 2));
+            EXPECT(REFUSED(1), meskvorn_bus_call(bus, operation, 255, 1, 1));
+        }
     }
     EXPECT("0 lines 00 0 0 0", meskvorn_bus_call(bus, MESKVORN_OPERATION_LINES, 255, 255, 255));
     EXPECT(REFUSED(3), meskvorn_bus_call(bus, 0, 0, 2, 5));
-    for (operation = MESKVORN_OPERATION_LINES + 1; operation != 0; operation++) {
+    for (operation = MESKVORN_OPERATION_SECOND_REQUEST + 1; operation != 0; operation++) {
         EXPECT(REFUSED(3), meskvorn_bus_call(bus, operation, 2, 0, 0));
     }
     EXPECT(REFUSED(3), meskvorn_bus_write(bus, 0, 0x41, 2));
     EXPECT(REFUSED(3), meskvorn_bus_listen_only(bus, 0, 2));
     EXPECT(REFUSED(3), meskvorn_bus_talk_only(bus, 0, 255));
+    EXPECT(REFUSED(3), meskvorn_bus_second_request(bus, 0, 2));
     EXPECT(REFUSED(4), meskvorn_bus_take_control(bus, 0));
     EXPECT(REFUSED(4), meskvorn_bus_go_to_standby(bus, 0));
     EXPECT(REFUSED(4), meskvorn_bus_interface_clear(bus, 1));
@@ -244,6 +239,7 @@ static void null_pointers(void)
     EXPECT(REFUSED(10), meskvorn_bus_write(NULL, 0, 0x41, 0));
     EXPECT(REFUSED(10), meskvorn_bus_read(NULL, 0));
     EXPECT(REFUSED(10), meskvorn_bus_poll_register(NULL, 0, 0));
+    EXPECT(REFUSED(10), meskvorn_bus_second_request(NULL, 0, 1));
     EXPECT(REFUSED(10), meskvorn_bus_listen_only(NULL, 0, 1));
     EXPECT(REFUSED(10), meskvorn_bus_talk_only(NULL, 0, 1));
     EXPECT(REFUSED(10), meskvorn_bus_take_control(NULL, 0));
@@ -293,7 +289,7 @@ static void any_content(void)
     int content;
     for (content = 0; content < 256; content++) {
         uint8_t operation;
-        for (operation = MESKVORN_OPERATION_STEP; operation <= MESKVORN_OPERATION_LINES; operation++) {
+        for (operation = MESKVORN_OPERATION_STEP; operation <= MESKVORN_OPERATION_SECOND_REQUEST; operation++) {
             uint64_t packed;
             meskvorn_answer answer;
             memset(bus, content, sizeof *bus);

@@ -7,7 +7,7 @@ use crate::model::{Answer, Bus, Name, MOST_PARTIES};
 use crate::plan::likely_turns;
 use crate::racks;
 use crate::random::Random;
-use crate::script::{self, Call, Record, BUILD, CLEAR, LINES, STEP, TALK, WRITE};
+use crate::script::{self, Call, Record, BUILD, CLEAR, LAST_OPERATION, LINES, STEP, TALK, WRITE};
 use crate::subject::{self, Subject};
 use crate::words;
 
@@ -149,7 +149,7 @@ impl Pair<'_> {
 
     fn any_calls(&mut self, random: &mut Random) -> Done {
         for _ in 0..CALLS_AFTER {
-            let known = 1 + random.below(12) as u8;
+            let known = 1 + random.below(usize::from(LAST_OPERATION)) as u8;
             let operation = if random.per_mille(900) {
                 known
             } else {

@@ -59,6 +59,10 @@ pub enum Difference {
         number: usize,
         rule: &'static str,
     },
+    Request {
+        number: usize,
+        rule: &'static str,
+    },
     Stopped,
 }
 
@@ -104,6 +108,7 @@ impl Difference {
                 format!("text line {line}: model {model:?}, subject {subject:?}")
             }
             Difference::Ledger { rule, .. } => format!("the model breaks demand 3: {rule}"),
+            Difference::Request { rule, .. } => format!("the model breaks Q-5's condition: {rule}"),
             Difference::Stopped => "a panic".to_string(),
         }
     }
@@ -118,7 +123,8 @@ impl Difference {
             | Difference::Name { number, .. }
             | Difference::Bus { number }
             | Difference::Bound { number, .. }
-            | Difference::Ledger { number, .. } => Some(*number),
+            | Difference::Ledger { number, .. }
+            | Difference::Request { number, .. } => Some(*number),
             Difference::Text { .. } | Difference::Stopped => None,
         }
     }

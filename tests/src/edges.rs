@@ -1,4 +1,5 @@
-//! Tables run whole: builds, operations, places, poll registers, drivers, runs, damaged scripts.
+//! Tables run whole: builds, operations, places, poll registers, requests, drivers, runs, damaged
+//! scripts.
 
 use crate::codes::SPE;
 use crate::compare::{Comparison, Finding};
@@ -7,9 +8,10 @@ use crate::guided::Guided;
 use crate::hearing;
 use crate::holders;
 use crate::model::Event;
+use crate::polls;
 use crate::random::Random;
-use crate::script::{self, Record, BUILD, CLEAR, LINES, LISTEN, LONGEST, POLL, READ, RECORD};
-use crate::script::{STANDBY, STEP, TAKE, TALK, WRITE};
+use crate::script::{self, Record, BUILD, CLEAR, LAST_OPERATION, LINES, LISTEN, LONGEST, POLL};
+use crate::script::{READ, RECORD, STANDBY, STEP, TAKE, TALK, WRITE};
 
 type Done = Result<(), Finding>;
 
@@ -60,7 +62,7 @@ fn operations_and_places(comparison: &mut Comparison) -> Done {
                 records.push(script::record(number, 0, value, value));
                 records.push(script::record(number, 1, value, value));
             }
-            for operation in 1..14 {
+            for operation in 1..=LAST_OPERATION + 1 {
                 records.push(script::record(operation, number, 0, 0));
                 records.push(script::record(operation, 0, number, 0));
                 records.push(script::record(operation, 0, 0, number));
@@ -160,6 +162,7 @@ pub fn run(comparison: &mut Comparison, seed: u64) -> Done {
     operations_and_places(comparison)?;
     hearing::run(comparison, seed)?;
     poll_registers(comparison)?;
+    polls::run(comparison)?;
     holders::run(comparison)?;
     runs(comparison, &mut Guided::new(seed))?;
     damaged_scripts(comparison, &mut Random::new(seed))

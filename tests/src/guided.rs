@@ -9,8 +9,8 @@ use crate::plan::{
 };
 use crate::racks;
 use crate::random::Random;
-use crate::script::{self, Record, BUILD, CLEAR, DROP, LINES, LISTEN, POLL, READ, RESET};
-use crate::script::{STANDBY, STEP, TAKE, TALK, WRITE};
+use crate::script::{self, Record, BUILD, CLEAR, DROP, LAST_OPERATION, LINES, LISTEN, POLL, READ};
+use crate::script::{REQUEST, RESET, STANDBY, STEP, TAKE, TALK, WRITE};
 
 /// How one list behaves, in times per thousand.
 #[derive(Clone, Copy, Default)]
@@ -24,6 +24,8 @@ struct Habits {
     runs: usize,
     /// How often the drivers are asked for.
     drivers: usize,
+    /// How often a scenario is one of requests and polls.
+    polls: usize,
 }
 
 pub struct Guided {
@@ -70,6 +72,7 @@ impl Guided {
             reads: 500,
             runs: 15,
             drivers: 15,
+            polls: 0,
         };
         for _ in 0..more {
             self.next_call();
@@ -96,6 +99,7 @@ impl Guided {
             reads: random.pick(&[50, 300, 900]),
             runs: random.pick(&[0, 0, 5, 20, 100]),
             drivers: random.pick(&[0, 10, 30, 200]),
+            polls: random.pick(&[0, 0, 800]),
         };
     }
 
@@ -225,11 +229,11 @@ impl Guided {
             1 => random.byte(),
             _ => random.below(2) as u8,
         };
-        let operation = 1 + random.below(12) as u8;
+        let operation = 1 + random.below(usize::from(LAST_OPERATION)) as u8;
         let (value, extra) = match operation {
             WRITE => (likely_command(&self.bus, random), switch),
             POLL => (likely_register(random), random.byte()),
-            LISTEN | TALK => (switch, random.byte()),
+            LISTEN | TALK | REQUEST => (switch, random.byte()),
             _ => (random.byte(), random.byte()),
         };
         script::record(operation, party, value, extra)
@@ -238,7 +242,9 @@ impl Guided {
     fn planned(&mut self) -> Record {
         loop {
             let Some(goal) = self.plan.pop_front() else {
-                self.plan.extend(scenario(&self.bus, &mut self.random));
+                let polls = self.habits.polls;
+                let goals = scenario(&self.bus, &mut self.random, polls);
+                self.plan.extend(goals);
                 continue;
             };
             if let Some(record) = self.toward(goal) {

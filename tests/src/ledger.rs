@@ -2,6 +2,9 @@
 //! It reads the calls, the answers and the party states, and uses none of the machine's rules.
 
 mod drivers;
+mod requests;
+
+pub use requests::Requests;
 
 use crate::model::{Acceptor, Answer, Bus, Data, Drivers, Event, Refusal, Source, MOST_PARTIES};
 use crate::script::{Record, BUILD, LISTEN, RESET, STEP, WRITE};

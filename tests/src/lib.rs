@@ -1,5 +1,6 @@
 //! A second model of documents 01 and 02, and the driver that compares it with a subject.
 
+pub mod asked;
 pub mod bench;
 pub mod bound;
 pub mod builds;
@@ -16,6 +17,7 @@ pub mod list;
 pub mod marks;
 pub mod model;
 pub mod plan;
+pub mod polls;
 pub mod product;
 pub mod racks;
 pub mod random;

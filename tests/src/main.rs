@@ -14,7 +14,7 @@ use meskvorn_tests::run;
 use meskvorn_tests::subject::Subject;
 
 const SEED: u64 = 488;
-const GATE_RECORDS: u64 = 12_000_000;
+const GATE_RECORDS: u64 = 20_000_000;
 
 /// The thing under test.
 fn subject() -> Box<dyn Subject> {

@@ -3,9 +3,9 @@
 use crate::bound::TURNS_A_PARTY;
 use crate::codes::{self, DCL, GET, LISTEN_ADDRESS, NEITHER, NO_MEANING, SDC, SECONDARY};
 use crate::codes::{SPD, SPE, TALK_ADDRESS, TCT, UNL, UNT};
-use crate::model::{Bus, Control};
+use crate::model::{Bus, Control, RSV};
 use crate::random::Random;
-use crate::script::{CLEAR, DROP, LISTEN, POLL, RESET, STANDBY, TAKE, TALK, WRITE};
+use crate::script::{CLEAR, DROP, LISTEN, POLL, REQUEST, RESET, STANDBY, TAKE, TALK, WRITE};
 
 #[derive(Clone, Copy, Debug)]
 pub enum Goal {
@@ -103,7 +103,7 @@ pub fn likely_turns(bus: &Bus, random: &mut Random) -> u16 {
 
 type Scenario = fn(&Bus, &mut Random, &mut Vec<Goal>);
 
-const SCENARIOS: [Scenario; 14] = [
+const SCENARIOS: [Scenario; 15] = [
     talk_to_listeners,
     talk_to_listeners,
     talk_to_listeners,
@@ -112,6 +112,7 @@ const SCENARIOS: [Scenario; 14] = [
     address_and_send,
     serial_poll,
     serial_poll,
+    second_requests,
     pass_control,
     pass_control,
     signals,
@@ -120,12 +121,18 @@ const SCENARIOS: [Scenario; 14] = [
     nobody_listens,
 ];
 
-/// Goals for one scenario of chance, never none.
-pub fn scenario(bus: &Bus, random: &mut Random) -> Vec<Goal> {
+/// Goals for one scenario of chance, never none; `polls` times in a thousand it has requests and polls.
+pub fn scenario(bus: &Bus, random: &mut Random, polls: usize) -> Vec<Goal> {
     let mut goals = Vec::new();
     let by_two_bytes = bus.has_secondaries() && random.per_mille(300);
     let any = random.pick(&SCENARIOS);
-    let chosen = if by_two_bytes { secondaries } else { any };
+    let chosen = if random.per_mille(polls) {
+        second_requests
+    } else if by_two_bytes {
+        secondaries
+    } else {
+        any
+    };
     chosen(bus, random, &mut goals);
     goals.push(Goal::Walk(1 + random.below(4)));
     goals
@@ -203,6 +210,52 @@ fn serial_poll(bus: &Bus, random: &mut Random, goals: &mut Vec<Goal>) {
     }
 }
 
+/// A request before, in or between polls of one party, whose register mostly has bit 64 off.
+fn second_requests(bus: &Bus, random: &mut Random, goals: &mut Vec<Goal>) {
+    let party = any_party(bus, random);
+    if random.per_mille(850) {
+        goals.push(Goal::Call(POLL, party, random.byte() & !RSV, 0));
+    }
+    address_for_poll(bus, random, goals, party);
+    goals.push(Goal::Call(REQUEST, party, 1, 0));
+    for _ in 0..1 + random.below(4) {
+        if random.per_mille(250) {
+            between_polls(bus, random, goals, party);
+            address_for_poll(bus, random, goals, party);
+        }
+        goals.push(Goal::Release);
+        goals.push(Goal::Walk(random.pick(&[0, 1, 3, 4, 8, 20, 30])));
+        if random.per_mille(150) {
+            goals.push(Goal::Call(REQUEST, party, random.below(3) as u8, 0));
+            goals.push(Goal::Walk(random.below(12)));
+        }
+        goals.push(Goal::Gain);
+    }
+}
+
+fn address_for_poll(bus: &Bus, random: &mut Random, goals: &mut Vec<Goal>, party: u8) {
+    goals.push(Goal::Gain);
+    if random.per_mille(850) {
+        address(goals, LISTEN_ADDRESS, bus, other_party(bus, party, random));
+    }
+    goals.push(Goal::Command(SPE));
+    address(goals, TALK_ADDRESS, bus, party);
+}
+
+/// What may or may not take a request back.
+fn between_polls(bus: &Bus, random: &mut Random, goals: &mut Vec<Goal>, party: u8) {
+    let call = match random.below(6) {
+        0 => Goal::Call(REQUEST, party, 0, 0),
+        1 => Goal::Call(RESET, party, 0, 0),
+        2 => Goal::Call(POLL, party, likely_register(random), 0),
+        3 => Goal::Call(CLEAR, bus.system as u8, 0, 0),
+        4 => Goal::Data,
+        _ => Goal::Call(REQUEST, party, 1, 0),
+    };
+    goals.push(call);
+    goals.push(Goal::Walk(random.below(3)));
+}
+
 fn pass_control(bus: &Bus, random: &mut Random, goals: &mut Vec<Goal>) {
     let next = any_party(bus, random);
     goals.push(Goal::Gain);
@@ -238,7 +291,7 @@ fn mid_byte(bus: &Bus, random: &mut Random, goals: &mut Vec<Goal>) {
     } else {
         any_party(bus, random)
     };
-    let operation = random.pick(&[RESET, LISTEN, TALK, TAKE, STANDBY, CLEAR, DROP]);
+    let operation = random.pick(&[RESET, LISTEN, TALK, TAKE, STANDBY, CLEAR, DROP, REQUEST]);
     goals.push(Goal::Call(operation, party, random.below(2) as u8, 0));
 }
 

@@ -3,8 +3,8 @@
 use meskvorn::Bus;
 
 use crate::model::{Answer, Drivers, Event, Line, Name, Refusal, Turns};
-use crate::script::{Call, CLEAR, DROP, LINES, LISTEN, POLL, READ, RECORD, RESET, STANDBY, STEP};
-use crate::script::{TAKE, TALK, WRITE};
+use crate::script::{Call, CLEAR, DROP, LINES, LISTEN, POLL, READ, RECORD, REQUEST, RESET};
+use crate::script::{STANDBY, STEP, TAKE, TALK, WRITE};
 use crate::subject::{like_lines_by, try_run_by, Subject};
 
 /// What the longest line of text takes.
@@ -63,6 +63,7 @@ pub fn call(bus: &mut Bus, [operation, party, value, extra]: Call) -> meskvorn::
         (RESET, 0, 0) => bus.reset(party),
         (DROP, 0, 0) => bus.drop_byte(party),
         (LINES, 0, 0) if party == 0 => bus.lines(),
+        (REQUEST, 0 | 1, 0) => bus.second_request(party, value == 1),
         _ => bus.call(operation, party, value, extra),
     }
 }

@@ -8,8 +8,8 @@ use crate::compose::Composer;
 use crate::guided::Guided;
 use crate::list::{self, Piece};
 use crate::model::{Acceptor, Bus, Control, Kind, Mark, Name, Service, Source, ATN, DAV};
-use crate::script::{self, Record, BUILD, CLEAR, DROP, LINES, LISTEN, POLL, READ, RESET, STANDBY};
-use crate::script::{STEP, TAKE, TALK, WRITE};
+use crate::script::{self, Record, BUILD, CLEAR, DROP, LAST_OPERATION, LINES, LISTEN, POLL, READ};
+use crate::script::{REQUEST, RESET, STANDBY, STEP, TAKE, TALK, WRITE};
 
 const PARTIES: u8 = 3;
 const FIRST_ADDRESS: u8 = 5;
@@ -40,6 +40,7 @@ struct PartyKind {
     held: bool,
     data_in: bool,
     service: Service,
+    rsv2: bool,
     register_waits: bool,
     system: bool,
     lines: u8,
@@ -58,6 +59,7 @@ fn kind(bus: &Bus, place: usize, lines: u8) -> PartyKind {
         held: party.held.is_some(),
         data_in: party.data_in.is_some(),
         service: party.service,
+        rsv2: party.rsv2,
         register_waits: party.live != party.saved,
         system: place == bus.system,
         lines: bus.line_bits() & lines,
@@ -78,6 +80,7 @@ pub fn single_calls() -> Vec<Record> {
             calls.push(script::record(LISTEN, party, switch, 0));
             calls.push(script::record(TALK, party, switch, 0));
             calls.push(script::record(POLL, party, 0x41 * switch, 0));
+            calls.push(script::record(REQUEST, party, switch, 0));
             calls.push(script::record(WRITE, party, 0x09, switch));
         }
     }
@@ -148,8 +151,8 @@ fn all_calls() -> Vec<Record> {
     let mut calls = vec![
         script::record(LINES, 0, 0, 0),
         script::record(LINES, 255, 255, 255),
-        script::record(13, 0, 0, 0),
-        script::record(13, 255, 2, 2),
+        script::record(LAST_OPERATION + 1, 0, 0, 0),
+        script::record(LAST_OPERATION + 1, 255, 2, 2),
         script::record(255, 0, 0, 0),
     ];
     for turns in [1, TURNS_A_PARTY] {
@@ -163,6 +166,7 @@ fn all_calls() -> Vec<Record> {
         for value in 0..3 {
             calls.push(script::record(LISTEN, party, value, 0));
             calls.push(script::record(TALK, party, value, 2));
+            calls.push(script::record(REQUEST, party, value, 2));
             calls.push(script::record(WRITE, party, 0xA5, value));
             calls.push(script::record(
                 POLL,

@@ -1,5 +1,6 @@
 //! How often each refusal and each event came.
 
+use crate::asked::Asked;
 use crate::bound::Tried;
 use crate::driven::Driven;
 use crate::marks::Marks;
@@ -19,6 +20,7 @@ pub struct Tally {
     pub bound: Tried,
     pub marks: Marks,
     pub driven: Driven,
+    pub asked: Asked,
 }
 
 /// Fewer starts would say little of the bound, on racks without secondaries or with some.
@@ -66,7 +68,8 @@ impl Tally {
         let starts = self.bound.starts.iter().zip(Tried::WORDS);
         let few = starts.filter(|(count, _)| **count < LEAST_STARTS);
         let few = few.map(|(_, word)| word);
-        never.chain(few).chain(self.driven.missing()).collect()
+        let few = few.chain(self.driven.missing());
+        never.chain(few).chain(self.asked.missing()).collect()
     }
 
     pub fn print(&self) {
@@ -90,5 +93,6 @@ impl Tally {
             println!("    {word:<30} {count:>12}");
         }
         self.driven.print();
+        self.asked.print();
     }
 }

@@ -2,7 +2,7 @@
 
 use crate::bound::Start;
 use crate::compare::Difference;
-use crate::ledger::Ledger;
+use crate::ledger::{Ledger, Requests};
 use crate::list::{self, Piece};
 use crate::model::{Answer, Bus, Name, Refusal};
 use crate::script::{self, Record, BUILD, STEP};
@@ -14,6 +14,7 @@ type Done = Result<(), Difference>;
 struct Walk<'a> {
     bus: Bus,
     ledger: Ledger,
+    requests: Requests,
     subject: &'a mut dyn Subject,
     tally: &'a mut Tally,
     /// The piece of the list that is compared, from 1.
@@ -24,7 +25,12 @@ impl Walk<'_> {
     fn enter(&mut self, before: &Bus, call: Record, answer: &Answer) -> Done {
         let number = self.number;
         let entered = self.ledger.enter(before, call, answer, &self.bus);
-        entered.map_err(|rule| Difference::Ledger { number, rule })
+        entered.map_err(|rule| Difference::Ledger { number, rule })?;
+        let asked = &mut self.tally.asked;
+        asked.enter(before, call, answer);
+        let requests = &mut self.requests;
+        let entered = requests.enter(before, call, answer, &self.bus, asked);
+        entered.map_err(|rule| Difference::Request { number, rule })
     }
 
     /// One call, whose answer by the subject is known; the books read it as a record.
@@ -183,6 +189,7 @@ pub fn compare_calls(subject: &mut dyn Subject, list: &[u8], tally: &mut Tally) 
     let mut walk = Walk {
         bus: Bus::new(),
         ledger: Ledger::new(),
+        requests: Requests::new(),
         subject,
         tally,
         number: 0,

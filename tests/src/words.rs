@@ -27,6 +27,7 @@ pub fn call([operation, party, value, extra]: Call) -> String {
         script::RESET => format!("reset party {party}"),
         script::DROP => format!("drop party {party}"),
         script::LINES => "lines".to_string(),
+        script::REQUEST => format!("second request party {party} {}", switch(value)),
         other => format!("unknown operation {other}"),
     }
 }

@@ -4,12 +4,14 @@ mod builds;
 mod drivers;
 mod faults;
 mod noacc;
+mod requests;
 mod runs;
 mod secondaries;
 
 pub use builds::{BuildFault, BUILD_FAULTS};
 pub use drivers::{DriversFault, Shows, DRIVERS_FAULTS};
 pub use faults::{Fault, FAULTS};
+pub use requests::REQUEST_FAULTS;
 pub use runs::{RunFault, WrongRun, RUN_FAULTS};
 pub use secondaries::SECONDARY_FAULTS;
 
@@ -55,7 +57,7 @@ impl Wrong {
 
     /// The machine with the fault of that name.
     pub fn named(name: &str) -> Wrong {
-        let mut faults = FAULTS.iter().chain(SECONDARY_FAULTS);
+        let mut faults = FAULTS.iter().chain(SECONDARY_FAULTS).chain(REQUEST_FAULTS);
         let found = faults.find(|(known, _)| *known == name);
         Wrong::new(found.expect("a known fault").1)
     }

@@ -113,9 +113,12 @@ fn the_joiner_is_shown_by_a_short_script() {
     let finding = first_finding(&mut machine, 300_000).expect("a difference");
     let mut comparison = Comparison::new(&mut machine);
     let finding = run::shortest(&mut comparison, 4, finding);
-    // Build, talker, listener, write, two steps, put, joining, and the joiner's step.
+    // Build, talker, listener, write, two steps, put, joining, and the joiner's step or the drivers.
     assert!(finding.list.len() <= 9 * RECORD, "{:?}", finding.list);
-    assert!(matches!(finding.difference, Difference::Answer { .. }));
+    assert!(matches!(
+        finding.difference,
+        Difference::Answer { .. } | Difference::Drivers { .. }
+    ));
 }
 
 /// Agrees record by record and differs in the text alone.

@@ -203,9 +203,9 @@ fn the_drivers_are_those_of_the_bus_as_it_is_found() {
 #[test]
 fn no_record_asks_for_the_drivers() {
     check(&[
-        ("0d000000", "3 none -- 0 0 0"),
+        ("0e000000", "3 none -- 0 0 0"),
         ("00000205", NONE),
-        ("0d000000", "3 none -- 0 0 0"),
+        ("0e000000", "3 none -- 0 0 0"),
         ("ff000000", "3 none -- 0 0 0"),
     ]);
 }

@@ -22,7 +22,7 @@ fn check_last(accepted: &str, last: &str, number: &str) {
 
 #[test]
 fn refusal_1_no_such_party() {
-    for operation in 1..12 {
+    for operation in (1..12).chain([13]) {
         check_last("00000205", &format!("{operation:02x}020000"), "1");
         check_last("00000205", &format!("{operation:02x}ff0000"), "1");
         check_last("", &format!("{operation:02x}000000"), "1");
@@ -67,11 +67,12 @@ fn a_refused_build_leaves_no_parties() {
 #[test]
 fn refusal_3_values_and_operations() {
     for call in [
-        "0d000000", "ff000000", "02004102", "020041ff", "05000200", "06000200", "0500ff00",
+        "0e000000", "ff000000", "02004102", "020041ff", "05000200", "06000200", "0500ff00",
+        "0d000200", "0d01ff01",
     ] {
         check_last("00000205", call, "3");
     }
-    check_last("", "0d000000", "3");
+    check_last("", "0e000000", "3");
 }
 
 #[test]
@@ -165,10 +166,11 @@ fn order_of_refusals() {
     // A wrong mark before all else.
     assert_eq!(text(&[0, 0, 99, 99, 99, 99]), "1 10 none -- 0 0 0\n");
     // An unknown operation before the party.
-    check_last("00000205", "0d090000", "3");
+    check_last("00000205", "0e090000", "3");
     // The party before values, values before 4 to 9.
     check_last("00000205", "05090200", "1");
     check_last("00000205", "02094102", "1");
+    check_last("00000205", "0d090200", "1");
     check_last("00000205 02004100", "02004102", "3");
     check_last("00000205 05000100", "06000200", "3");
     check_last("00000205 06000100", "05000200", "3");

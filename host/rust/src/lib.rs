@@ -48,6 +48,7 @@ pub enum Operation {
     Reset = 10,
     Drop = 11,
     Lines = 12,
+    SecondRequest = 13,
 }
 
 /// A bus. Parties are numbered from 0. Equal buses answer alike, whatever is called.
@@ -160,6 +161,11 @@ impl Bus {
     /// Bit 64 of the register asks for service.
     pub fn poll_register(&mut self, party: u8, value: u8) -> Answer {
         self.call(Operation::PollRegister as u8, party, value, 0)
+    }
+
+    /// The second request bit asks for service too, until a status byte tells of it.
+    pub fn second_request(&mut self, party: u8, on: bool) -> Answer {
+        self.call(Operation::SecondRequest as u8, party, on.into(), 0)
     }
 
     pub fn listen_only(&mut self, party: u8, on: bool) -> Answer {

@@ -183,21 +183,21 @@ fn p12_status_bytes() {
 #[test]
 fn unknown_operations_and_values_are_refused() {
     let mut bus = built(2);
-    for operation in (13..=255).chain([0]) {
+    for operation in (14..=255).chain([0]) {
         assert_eq!(
             bus.call(operation, 2, 0, 0),
             refused(Refusal::BadValue),
             "{operation}"
         );
     }
-    for operation in 1..12 {
+    for operation in (1..12).chain([13]) {
         assert_eq!(
             bus.call(operation, 2, 2, 2),
             refused(Refusal::NoParty),
             "{operation}"
         );
     }
-    for (operation, value, extra) in [(2, 0, 2), (5, 2, 0), (6, 255, 0)] {
+    for (operation, value, extra) in [(2, 0, 2), (5, 2, 0), (6, 255, 0), (13, 2, 0)] {
         assert_eq!(
             bus.call(operation, 0, value, extra),
             refused(Refusal::BadValue)

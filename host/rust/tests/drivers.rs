@@ -240,7 +240,7 @@ fn every_party_has_its_bit() {
 fn no_operation_asks_for_the_drivers() {
     let mut bus = standing(2, true);
     let before = bus.clone();
-    for operation in Operation::Lines as u8 + 1..=255 {
+    for operation in Operation::SecondRequest as u8 + 1..=255 {
         let answer = bus.call(operation, 0, 0, 0);
         assert_eq!(answer.refusal, Refusal::BadValue);
         assert_eq!(bus, before);

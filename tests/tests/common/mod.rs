@@ -1,11 +1,13 @@
 //! Scripts in hexadecimal without their marks, answers without their numbers, and what a comparison
 //! finds first.
 
+use meskvorn_tests::asked::Asked;
 use meskvorn_tests::compare::{Comparison, Finding};
 use meskvorn_tests::edges;
 use meskvorn_tests::guided::Guided;
-use meskvorn_tests::ledger::Ledger;
+use meskvorn_tests::ledger::{Ledger, Requests};
 use meskvorn_tests::list::{self, Piece};
+use meskvorn_tests::model::Answer;
 use meskvorn_tests::script::{self, Record, MARK};
 use meskvorn_tests::subject::Subject;
 use meskvorn_tests::wrong::Wrong;
@@ -68,6 +70,18 @@ pub fn ledger_says(fault: &str, list: &[u8]) -> Option<&'static str> {
     ledger_of(&mut Wrong::named(fault), list)
 }
 
+/// A call or a build by a wrong machine, with the answer; None for any other piece.
+fn call_of(machine: &mut Wrong, piece: &Piece) -> Option<(Record, Answer)> {
+    match piece {
+        Piece::Record(record) => Some((*record, machine.record(*record))),
+        Piece::Build(names, system) => {
+            let answer = machine.build_extended(names, *system);
+            Some((list::build_of_named(*system), answer))
+        }
+        _ => None,
+    }
+}
+
 /// Runs a wrong machine alone, runs left out; the rule that it breaks, if the ledger sees one.
 #[allow(dead_code)]
 pub fn ledger_of(machine: &mut Wrong, list: &[u8]) -> Option<&'static str> {
@@ -75,19 +89,25 @@ pub fn ledger_of(machine: &mut Wrong, list: &[u8]) -> Option<&'static str> {
     machine.start();
     list::pieces(list).find_map(|piece| {
         let before = machine.bus;
-        let (record, answer) = match piece {
-            Piece::Drivers => {
-                let (told, lines) = (machine.drivers(), before.clone().lines());
-                let checked = ledger.check_drivers(&before, &told, lines.byte, &machine.bus);
-                return checked.err();
-            }
-            Piece::Record(record) => (record, machine.record(record)),
-            Piece::Build(names, system) => {
-                let answer = machine.build_extended(&names, system);
-                (list::build_of_named(system), answer)
-            }
-            _ => return None,
-        };
+        if piece == Piece::Drivers {
+            let (told, lines) = (machine.drivers(), before.clone().lines());
+            let checked = ledger.check_drivers(&before, &told, lines.byte, &machine.bus);
+            return checked.err();
+        }
+        let (record, answer) = call_of(machine, &piece)?;
         ledger.enter(&before, record, &answer, &machine.bus).err()
+    })
+}
+
+/// The same by the books of the condition on requests alone.
+#[allow(dead_code)]
+pub fn condition_of(machine: &mut Wrong, list: &[u8]) -> Option<&'static str> {
+    let (mut requests, mut asked) = (Requests::new(), Asked::default());
+    machine.start();
+    list::pieces(list).find_map(|piece| {
+        let before = machine.bus;
+        let (record, answer) = call_of(machine, &piece)?;
+        let entered = requests.enter(&before, record, &answer, &machine.bus, &mut asked);
+        entered.err()
     })
 }
