@@ -3,15 +3,6 @@ use borrow.Author.Needs.{needs}
 use Rattle.accepted.proofs.stepped.Statement.{statement}
 use Rattle.accepted.proofs.stepped.Tie as tie
 
-is-source-requires : tie.Need-is-source-requires
-is-source-requires c κs = search needs
-
-source-step-requires : tie.Need-source-step-requires
-source-step-requires c κs = search needs
-
-acceptor-step-requires : tie.Need-acceptor-step-requires
-acceptor-step-requires c κs = search needs
-
 returns : tie.Need-returns
 returns c = simp (c .source-step .ensures, sym (c .before .before .is-source .ensures) ∙ c .before .if1 .taken)
 
@@ -21,4 +12,5 @@ returns-2 c = simp (c .acceptor-step .ensures, sym (c .before .before .is-source
 pub stepped-spec : {M : Type 1} → statement M
 stepped-spec =
     tie.close
-    (tie.spec is-source-requires source-step-requires acceptor-step-requires returns returns-2)
+    (tie.spec
+    (λ c κs. search needs) (λ c κs. search needs) (λ c κs. search needs) returns returns-2)

@@ -2,51 +2,6 @@ use borrow.Author.Needs.{needs}
 use Rattle.acceptor_step.proofs.acceptor_step.Statement.{statement}
 use Rattle.acceptor_step.proofs.acceptor_step.Tie as tie
 
-enum-told : tie.Need-enum-told
-enum-told c = search needs
-
-stay-requires : tie.Need-stay-requires
-stay-requires c κs = search needs
-
-enum-told-2 : tie.Need-enum-told-2
-enum-told-2 c = search needs
-
-is-full-requires : tie.Need-is-full-requires
-is-full-requires c κs = search needs
-
-from-anrs-requires : tie.Need-from-anrs-requires
-from-anrs-requires c κs = search needs
-
-enum-told-3 : tie.Need-enum-told-3
-enum-told-3 c = search needs
-
-takes-requires : tie.Need-takes-requires
-takes-requires c κs = search needs
-
-stay-requires-2 : tie.Need-stay-requires-2
-stay-requires-2 c κs = search needs
-
-enum-told-4 : tie.Need-enum-told-4
-enum-told-4 c = search needs
-
-with-acceptor-requires : tie.Need-with-acceptor-requires
-with-acceptor-requires c κs = search needs
-
-moved-requires : tie.Need-moved-requires
-moved-requires c κs = search needs
-
-enum-told-5 : tie.Need-enum-told-5
-enum-told-5 c = search needs
-
-stay-requires-3 : tie.Need-stay-requires-3
-stay-requires-3 c κs = search needs
-
-with-acceptor-requires-2 : tie.Need-with-acceptor-requires-2
-with-acceptor-requires-2 c κs = search needs
-
-moved-requires-2 : tie.Need-moved-requires-2
-moved-requires-2 c κs = search needs
-
 returns : tie.Need-returns
 returns c =
     simp (
@@ -107,25 +62,7 @@ pub acceptor-step-spec : {M : Type 1} → statement M
 acceptor-step-spec =
     tie.close
     (tie.spec
-    enum-told
-    stay-requires
-    enum-told-2
-    is-full-requires
-    from-anrs-requires
-    enum-told-3
-    takes-requires
-    stay-requires-2
-    enum-told-4
-    with-acceptor-requires
-    moved-requires
-    enum-told-5
-    stay-requires-3
-    with-acceptor-requires-2
-    moved-requires-2
-    returns
-    returns-2
-    returns-3
-    returns-4
-    returns-5
-    returns-6
-    returns-7)
+    (λ c. search needs) (λ c κs. search needs) (λ c. search needs) (λ c κs. search needs) (λ c κs. search needs)
+    (λ c. search needs) (λ c κs. search needs) (λ c κs. search needs) (λ c. search needs) (λ c κs. search needs)
+    (λ c κs. search needs) (λ c. search needs) (λ c κs. search needs) (λ c κs. search needs) (λ c κs. search needs)
+    returns returns-2 returns-3 returns-4 returns-5 returns-6 returns-7)

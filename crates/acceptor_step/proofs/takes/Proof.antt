@@ -2,30 +2,6 @@ use borrow.Author.Needs.{needs}
 use Rattle.acceptor_step.proofs.takes.Statement.{statement}
 use Rattle.acceptor_step.proofs.takes.Tie as tie
 
-enum-told : tie.Need-enum-told
-enum-told c = search needs
-
-stay-requires : tie.Need-stay-requires
-stay-requires c κs = search needs
-
-enum-known-st : tie.Need-enum-known-st
-enum-known-st c = search needs
-
-hears-requires : tie.Need-hears-requires
-hears-requires c κs = search needs
-
-with-input-requires : tie.Need-with-input-requires
-with-input-requires c κs = search needs
-
-with-acceptor-requires : tie.Need-with-acceptor-requires
-with-acceptor-requires c κs = search needs
-
-say-requires : tie.Need-say-requires
-say-requires c κs = search needs
-
-does-requires : tie.Need-does-requires
-does-requires c κs = search needs
-
 returns : tie.Need-returns
 returns c =
     simp (
@@ -56,14 +32,5 @@ pub takes-spec : {M : Type 1} → statement M
 takes-spec =
     tie.close
     (tie.spec
-    enum-told
-    stay-requires
-    enum-known-st
-    hears-requires
-    with-input-requires
-    with-acceptor-requires
-    say-requires
-    does-requires
-    returns
-    returns-2
-    returns-3)
+    (λ c. search needs) (λ c κs. search needs) (λ c. search needs) (λ c κs. search needs) (λ c κs. search needs)
+    (λ c κs. search needs) (λ c κs. search needs) (λ c κs. search needs) returns returns-2 returns-3)

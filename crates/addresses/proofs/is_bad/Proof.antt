@@ -11,9 +11,6 @@ returns c = simp (names-length, eq-eqb _ 0 (c .if1 .taken))
 returns-2 : tie.Need-returns-2
 returns-2 c = simp (names-length, ne-eqb _ 0 (c .before .if1 .left), lt-ltb 15 _ (c .if2 .taken))
 
-any-over-30-requires : tie.Need-any-over-30-requires
-any-over-30-requires c κs = search needs
-
 returns-3 : tie.Need-returns-3
 returns-3 c =
     simp (
@@ -22,9 +19,6 @@ returns-3 c =
       le-ltb 15 _ (c .before .before .if2 .left),
       sym (c .before .any-over-30 .ensures) ∙ c .if3 .taken,
     )
-
-two-clash-requires : tie.Need-two-clash-requires
-two-clash-requires c κs = search needs
 
 returns-4 : tie.Need-returns-4
 returns-4 c =
@@ -35,9 +29,6 @@ returns-4 c =
       sym (c .before .before .before .any-over-30 .ensures) ∙ c .before .before .if3 .left,
       sym (c .before .two-clash .ensures) ∙ c .if4 .taken,
     )
-
-cast-i : tie.Need-cast-i
-cast-i c = search needs
 
 returns-5 : tie.Need-returns-5
 returns-5 c =
@@ -65,12 +56,5 @@ pub is-bad-spec : {M : Type 1} → statement M
 is-bad-spec =
     tie.close
     (tie.spec
-    returns
-    returns-2
-    any-over-30-requires
-    returns-3
-    two-clash-requires
-    returns-4
-    cast-i
-    returns-5
+    returns returns-2 (λ c κs. search needs) returns-3 (λ c κs. search needs) returns-4 (λ c. search needs) returns-5
     returns-6)

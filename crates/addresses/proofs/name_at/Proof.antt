@@ -13,19 +13,10 @@ returns c =
     let a = c .before .before .before .args in
     sym (name-past (a .addresses .now) (a .secondaries .now) (a .i) (plain (address 0)) (omega arith))
 
-shared-slice-read-secondary-of : tie.Need-shared-slice-read-secondary-of
-shared-slice-read-secondary-of c = search needs
-
 returns-2 : tie.Need-returns-2
 returns-2 c =
     let a = c .before .before .before .before .before .args in
     sym (name-plain (a .addresses .now) (a .secondaries .now) (a .i) (plain (address 0)) (omega arith) (omega arith))
-
-shared-slice-read-secondary-of-2 : tie.Need-shared-slice-read-secondary-of-2
-shared-slice-read-secondary-of-2 c = search needs
-
-secondary-of-requires : tie.Need-secondary-of-requires
-secondary-of-requires c κs = search needs
 
 returns-3 : tie.Need-returns-3
 returns-3 c =
@@ -36,9 +27,4 @@ pub name-at-spec : {M : Type 1} → statement M
 name-at-spec =
     tie.close
     (tie.spec
-    returns
-    shared-slice-read-secondary-of
-    returns-2
-    shared-slice-read-secondary-of-2
-    secondary-of-requires
-    returns-3)
+    returns (λ c. search needs) returns-2 (λ c. search needs) (λ c κs. search needs) returns-3)

@@ -2,12 +2,6 @@ use borrow.Author.Needs.{needs}
 use Rattle.host_calls.proofs.asking.Statement.{statement}
 use Rattle.host_calls.proofs.asking.Tie as tie
 
-with-request-requires : tie.Need-with-request-requires
-with-request-requires c κs = search needs
-
-quiet-requires : tie.Need-quiet-requires
-quiet-requires c κs = search needs
-
 returns : tie.Need-returns
 returns c =
     simp (
@@ -16,4 +10,5 @@ returns c =
     )
 
 pub asking-spec : {M : Type 1} → statement M
-asking-spec = tie.close (tie.spec with-request-requires quiet-requires returns)
+asking-spec = tie.close (tie.spec
+    (λ c κs. search needs) (λ c κs. search needs) returns)

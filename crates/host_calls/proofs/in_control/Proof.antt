@@ -2,18 +2,6 @@ use borrow.Author.Needs.{needs}
 use Rattle.host_calls.proofs.in_control.Statement.{statement}
 use Rattle.host_calls.proofs.in_control.Tie as tie
 
-held-bytes-requires : tie.Need-held-bytes-requires
-held-bytes-requires c κs = search needs
-
-change-control-requires : tie.Need-change-control-requires
-change-control-requires c κs = search needs
-
-quiet-requires : tie.Need-quiet-requires
-quiet-requires c κs = search needs
-
-then-requires : tie.Need-then-requires
-then-requires c κs = search needs
-
 returns : tie.Need-returns
 returns c =
     simp (
@@ -26,4 +14,5 @@ returns c =
 pub in-control-spec : {M : Type 1} → statement M
 in-control-spec =
     tie.close
-    (tie.spec held-bytes-requires change-control-requires quiet-requires then-requires returns)
+    (tie.spec
+    (λ c κs. search needs) (λ c κs. search needs) (λ c κs. search needs) (λ c κs. search needs) returns)

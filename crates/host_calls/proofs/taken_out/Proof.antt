@@ -2,24 +2,6 @@ use borrow.Author.Needs.{needs}
 use Rattle.host_calls.proofs.taken_out.Statement.{statement}
 use Rattle.host_calls.proofs.taken_out.Tie as tie
 
-enum-told : tie.Need-enum-told
-enum-told c = search needs
-
-stay-requires : tie.Need-stay-requires
-stay-requires c κs = search needs
-
-enum-known-input : tie.Need-enum-known-input
-enum-known-input c = search needs
-
-say-requires : tie.Need-say-requires
-say-requires c κs = search needs
-
-with-input-requires : tie.Need-with-input-requires
-with-input-requires c κs = search needs
-
-does-requires : tie.Need-does-requires
-does-requires c κs = search needs
-
 returns : tie.Need-returns
 returns c =
     simp (
@@ -40,11 +22,5 @@ pub taken-out-spec : {M : Type 1} → statement M
 taken-out-spec =
     tie.close
     (tie.spec
-    enum-told
-    stay-requires
-    enum-known-input
-    say-requires
-    with-input-requires
-    does-requires
-    returns
-    returns-2)
+    (λ c. search needs) (λ c κs. search needs) (λ c. search needs) (λ c κs. search needs) (λ c κs. search needs)
+    (λ c κs. search needs) returns returns-2)

@@ -6,12 +6,10 @@ use Rattle.message.proofs.Entries.{at}
 use Rattle.message.proofs.code_of.Statement.{statement}
 use Rattle.message.proofs.code_of.Tie as tie
 
-array-read-result : tie.Need-array-read-result
-array-read-result c = search needs
-
 returns : tie.Need-returns
 unfolding meaning sevenBits named
 returns c = at (λ b. codeOf (meaning b)) 0 _ 256 refl (c .args .byte) (search needs)
 
 pub code-of-spec : {M : Type 1} → statement M
-code-of-spec = tie.close (tie.spec array-read-result returns)
+code-of-spec = tie.close (tie.spec
+    (λ c. search needs) returns)

@@ -4,14 +4,9 @@ use Rattle.message.proofs.Entries.{meant}
 use Rattle.message.proofs.meaning_of.Statement.{statement}
 use Rattle.message.proofs.meaning_of.Tie as tie
 
-code-of-requires : tie.Need-code-of-requires
-code-of-requires c κs = search needs
-
-decoded-requires : tie.Need-decoded-requires
-decoded-requires c κs = search needs
-
 returns : tie.Need-returns
 returns c = simp (c .decoded .ensures, c .before .code-of .ensures, meant (c .before .before .args .byte) (search needs))
 
 pub meaning-of-spec : {M : Type 1} → statement M
-meaning-of-spec = tie.close (tie.spec code-of-requires decoded-requires returns)
+meaning-of-spec = tie.close (tie.spec
+    (λ c κs. search needs) (λ c κs. search needs) returns)

@@ -4,48 +4,6 @@ use Rattle.orders.proofs.addresses.Tie as tie
 use native.Mathlib.Nat.{add-assoc}
 use Rattle.orders.specs.Orders.{countUp}
 
-add-t2 : tie.Need-add-t2
-add-t2 c = search needs
-
-add-t3 : tie.Need-add-t3
-add-t3 c = search needs
-
-add-t4 : tie.Need-add-t4
-add-t4 c = search needs
-
-add-t5 : tie.Need-add-t5
-add-t5 c = search needs
-
-add-t6 : tie.Need-add-t6
-add-t6 c = search needs
-
-add-t7 : tie.Need-add-t7
-add-t7 c = search needs
-
-add-t8 : tie.Need-add-t8
-add-t8 c = search needs
-
-add-t9 : tie.Need-add-t9
-add-t9 c = search needs
-
-add-t10 : tie.Need-add-t10
-add-t10 c = search needs
-
-add-t11 : tie.Need-add-t11
-add-t11 c = search needs
-
-add-t12 : tie.Need-add-t12
-add-t12 c = search needs
-
-add-t13 : tie.Need-add-t13
-add-t13 c = search needs
-
-add-t14 : tie.Need-add-t14
-add-t14 c = search needs
-
-add-t15 : tie.Need-add-t15
-add-t15 c = search needs
-
 returns : tie.Need-returns
 unfolding countUp
 returns c = simp add-assoc
@@ -54,18 +12,6 @@ pub addresses-spec : {M : Type 1} → statement M
 addresses-spec =
     tie.close
     (tie.spec
-    add-t2
-    add-t3
-    add-t4
-    add-t5
-    add-t6
-    add-t7
-    add-t8
-    add-t9
-    add-t10
-    add-t11
-    add-t12
-    add-t13
-    add-t14
-    add-t15
-    returns)
+    (λ c. search needs) (λ c. search needs) (λ c. search needs) (λ c. search needs) (λ c. search needs)
+    (λ c. search needs) (λ c. search needs) (λ c. search needs) (λ c. search needs) (λ c. search needs)
+    (λ c. search needs) (λ c. search needs) (λ c. search needs) (λ c. search needs) returns)

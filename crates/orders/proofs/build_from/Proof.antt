@@ -11,23 +11,11 @@ use lib.Seq.{length-take-le}
 use Rattle.orders.specs.Orders.{buildFrom}
 use Rattle.orders.proofs.Building.{take-up, length-up, too-many, too-high}
 
-slice-aggregate-build : tie.Need-slice-aggregate-build
-slice-aggregate-build c = search needs
-
-build-requires : tie.Need-build-requires
-build-requires c κs = search needs
-
 returns : tie.Need-returns
 unfolding buildFrom
 returns c =
     let s = c .before .before .before in
     c .build .ensures ∙ sym (too-many (s .args .n) (s .args .first) (s .args .system) (c .before .before .if1 .taken))
-
-slice-aggregate-build-2 : tie.Need-slice-aggregate-build-2
-slice-aggregate-build-2 c = search needs
-
-build-requires-2 : tie.Need-build-requires-2
-build-requires-2 c κs = search needs
 
 returns-2 : tie.Need-returns-2
 unfolding buildFrom
@@ -35,18 +23,9 @@ returns-2 c =
     let s = c .before .before .before .before in
     c .build2 .ensures ∙ sym (too-high (s .args .n) (s .args .first) (s .args .system) (c .before .before .if2 .taken))
 
-addresses-requires : tie.Need-addresses-requires
-addresses-requires c κs = search needs
-
-array-share-prefix-all : tie.Need-array-share-prefix-all
-array-share-prefix-all c = search needs
-
 slice-aggregate-build-3 : tie.Need-slice-aggregate-build-3
 slice-aggregate-build-3 c =
     sym (length-take-le _ _ (omega (arith, ap length (c .before .addresses .ensures) ∙ length-up 15 _)))
-
-build-requires-3 : tie.Need-build-requires-3
-build-requires-3 c κs = search needs
 
 returns-3 : tie.Need-returns-3
 unfolding buildFrom
@@ -59,14 +38,5 @@ pub build-from-spec : {M : Type 1} → statement M
 build-from-spec =
     tie.close
     (tie.spec
-    slice-aggregate-build
-    build-requires
-    returns
-    slice-aggregate-build-2
-    build-requires-2
-    returns-2
-    addresses-requires
-    array-share-prefix-all
-    slice-aggregate-build-3
-    build-requires-3
-    returns-3)
+    (λ c. search needs) (λ c κs. search needs) returns (λ c. search needs) (λ c κs. search needs) returns-2
+    (λ c κs. search needs) (λ c. search needs) slice-aggregate-build-3 (λ c κs. search needs) returns-3)

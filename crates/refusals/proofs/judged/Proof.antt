@@ -3,12 +3,6 @@ use borrow.Author.Needs.{needs}
 use Rattle.refusals.proofs.judged.Statement.{statement}
 use Rattle.refusals.proofs.judged.Tie as tie
 
-is-known-requires : tie.Need-is-known-requires
-is-known-requires c κs = search needs
-
-met-requires : tie.Need-met-requires
-met-requires c κs = search needs
-
 returns : tie.Need-returns
 returns c = simp (c .met .ensures, sym (c .before .before .is-known .ensures) ∙ c .before .if1 .taken)
 
@@ -16,4 +10,5 @@ returns-2 : tie.Need-returns-2
 returns-2 c = simp (sym (c .before .is-known .ensures) ∙ c .if1 .left)
 
 pub judged-spec : {M : Type 1} → statement M
-judged-spec = tie.close (tie.spec is-known-requires met-requires returns returns-2)
+judged-spec = tie.close (tie.spec
+    (λ c κs. search needs) (λ c κs. search needs) returns returns-2)

@@ -2,27 +2,6 @@ use borrow.Author.Needs.{needs}
 use Rattle.source_step.proofs.from_sdys.Statement.{statement}
 use Rattle.source_step.proofs.from_sdys.Tie as tie
 
-enum-told : tie.Need-enum-told
-enum-told c = search needs
-
-with-source-requires : tie.Need-with-source-requires
-with-source-requires c κs = search needs
-
-moved-requires : tie.Need-moved-requires
-moved-requires c κs = search needs
-
-enum-known-offer : tie.Need-enum-known-offer
-enum-known-offer c = search needs
-
-stay-requires : tie.Need-stay-requires
-stay-requires c κs = search needs
-
-put-up-requires : tie.Need-put-up-requires
-put-up-requires c κs = search needs
-
-not-accepted-requires : tie.Need-not-accepted-requires
-not-accepted-requires c κs = search needs
-
 returns : tie.Need-returns
 returns c =
     simp (
@@ -61,14 +40,5 @@ pub from-sdys-spec : {M : Type 1} → statement M
 from-sdys-spec =
     tie.close
     (tie.spec
-    enum-told
-    with-source-requires
-    moved-requires
-    enum-known-offer
-    stay-requires
-    put-up-requires
-    not-accepted-requires
-    returns
-    returns-2
-    returns-3
-    returns-4)
+    (λ c. search needs) (λ c κs. search needs) (λ c κs. search needs) (λ c. search needs) (λ c κs. search needs)
+    (λ c κs. search needs) (λ c κs. search needs) returns returns-2 returns-3 returns-4)

@@ -2,15 +2,6 @@ use borrow.Author.Needs.{needs}
 use Rattle.source_step.proofs.not_accepted.Statement.{statement}
 use Rattle.source_step.proofs.not_accepted.Tie as tie
 
-end-requires : tie.Need-end-requires
-end-requires c κs = search needs
-
-say-requires : tie.Need-say-requires
-say-requires c κs = search needs
-
-does-requires : tie.Need-does-requires
-does-requires c κs = search needs
-
 returns : tie.Need-returns
 returns c =
     simp (
@@ -23,7 +14,4 @@ pub not-accepted-spec : {M : Type 1} → statement M
 not-accepted-spec =
     tie.close
     (tie.spec
-    end-requires
-    say-requires
-    does-requires
-    returns)
+    (λ c κs. search needs) (λ c κs. search needs) (λ c κs. search needs) returns)

@@ -11,20 +11,11 @@ put-number-requires c κs =
     let s = c .before .before in
     first (s .args .out .now) (numberText (s .args .n) 32) (numberText (refusalNumber (s .args .r)) 32) (s .args .at) (s .pre)
 
-refusal-number-requires : tie.Need-refusal-number-requires
-refusal-number-requires c κs = search needs
-
-cast-put-number : tie.Need-cast-put-number
-cast-put-number c = search needs
-
 put-number-requires-2 : tie.Need-put-number-requires-2
 unfolding headText
 put-number-requires-2 c κs =
     let s = c .before .before .before .before .before .before .before in
     rw (c .before .refusal-number .ensures) (room (c .before .before .before .before .put-number .ensures) (numberText (refusalNumber (s .args .r)) 32) (s .pre))
-
-same-length : tie.Need-same-length
-same-length c = search needs
 
 returns : tie.Need-returns
 unfolding headText
@@ -35,9 +26,4 @@ pub put-head-spec : {M : Type 1} → statement M
 put-head-spec =
     tie.close
     (tie.spec
-    put-number-requires
-    refusal-number-requires
-    cast-put-number
-    put-number-requires-2
-    same-length
-    returns)
+    put-number-requires (λ c κs. search needs) (λ c. search needs) put-number-requires-2 (λ c. search needs) returns)

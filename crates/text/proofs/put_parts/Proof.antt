@@ -23,9 +23,6 @@ put-counts-requires c κs =
     let s = c .before .before .before .before .before .before .before .before .before .before in
     room (joined (c .before .before .before .before .before .before .before .put-head .ensures) (c .before .before .before .put-event .ensures)) (countsText (s .args .a .end) (s .args .a .dropped) (s .args .a .broken)) (s .pre)
 
-same-length : tie.Need-same-length
-same-length c = search needs
-
 returns : tie.Need-returns
 unfolding lineOf
 returns c =
@@ -34,4 +31,5 @@ returns c =
 pub put-parts-spec : {M : Type 1} → statement M
 put-parts-spec =
     tie.close
-    (tie.spec put-head-requires put-event-requires put-counts-requires same-length returns)
+    (tie.spec
+    put-head-requires put-event-requires put-counts-requires (λ c. search needs) returns)

@@ -4,9 +4,6 @@ use Rattle.text.proofs.put_word.Tie as tie
 use mathlib.Core.Path.{sym}
 use lib.Seq.{length-take-le}
 
-word-of-requires : tie.Need-word-of-requires
-word-of-requires c κs = search needs
-
 array-share-prefix-text : tie.Need-array-share-prefix-text
 array-share-prefix-text c = c .before .word-of .ensures .0
 
@@ -16,9 +13,6 @@ slice-aggregate-copy-in c = sym (length-take-le _ _ (c .before .before .word-of 
 copy-in-requires : tie.Need-copy-in-requires
 copy-in-requires c κs = rw (c .before .before .before .word-of .ensures .1) (c .before .before .before .before .before .pre)
 
-same-length : tie.Need-same-length
-same-length c = search needs
-
 returns : tie.Need-returns
 returns c = rw (c .before .before .before .before .before .before .word-of .ensures .1) at (c .before .before .copy-in .ensures)
 
@@ -26,9 +20,4 @@ pub put-word-spec : {M : Type 1} → statement M
 put-word-spec =
     tie.close
     (tie.spec
-    word-of-requires
-    array-share-prefix-text
-    slice-aggregate-copy-in
-    copy-in-requires
-    same-length
-    returns)
+    (λ c κs. search needs) array-share-prefix-text slice-aggregate-copy-in copy-in-requires (λ c. search needs) returns)

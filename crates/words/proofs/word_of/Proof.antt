@@ -5,90 +5,6 @@ use mathlib.Core.Path.{refl}
 use lib.Dec.{lit≤}
 use Rattle.words.specs.Words.{codes, wordText}
 
-enum-told : tie.Need-enum-told
-enum-told c = search needs
-
-padded-requires : tie.Need-padded-requires
-padded-requires c κs = search needs
-
-enum-told-2 : tie.Need-enum-told-2
-enum-told-2 c = search needs
-
-padded-requires-2 : tie.Need-padded-requires-2
-padded-requires-2 c κs = search needs
-
-enum-told-3 : tie.Need-enum-told-3
-enum-told-3 c = search needs
-
-padded-requires-3 : tie.Need-padded-requires-3
-padded-requires-3 c κs = search needs
-
-enum-told-4 : tie.Need-enum-told-4
-enum-told-4 c = search needs
-
-padded-requires-4 : tie.Need-padded-requires-4
-padded-requires-4 c κs = search needs
-
-enum-told-5 : tie.Need-enum-told-5
-enum-told-5 c = search needs
-
-padded-requires-5 : tie.Need-padded-requires-5
-padded-requires-5 c κs = search needs
-
-enum-told-6 : tie.Need-enum-told-6
-enum-told-6 c = search needs
-
-padded-requires-6 : tie.Need-padded-requires-6
-padded-requires-6 c κs = search needs
-
-enum-told-7 : tie.Need-enum-told-7
-enum-told-7 c = search needs
-
-padded-requires-7 : tie.Need-padded-requires-7
-padded-requires-7 c κs = search needs
-
-enum-told-8 : tie.Need-enum-told-8
-enum-told-8 c = search needs
-
-padded-requires-8 : tie.Need-padded-requires-8
-padded-requires-8 c κs = search needs
-
-enum-told-9 : tie.Need-enum-told-9
-enum-told-9 c = search needs
-
-padded-requires-9 : tie.Need-padded-requires-9
-padded-requires-9 c κs = search needs
-
-enum-told-10 : tie.Need-enum-told-10
-enum-told-10 c = search needs
-
-padded-requires-10 : tie.Need-padded-requires-10
-padded-requires-10 c κs = search needs
-
-enum-told-11 : tie.Need-enum-told-11
-enum-told-11 c = search needs
-
-padded-requires-11 : tie.Need-padded-requires-11
-padded-requires-11 c κs = search needs
-
-enum-told-12 : tie.Need-enum-told-12
-enum-told-12 c = search needs
-
-padded-requires-12 : tie.Need-padded-requires-12
-padded-requires-12 c κs = search needs
-
-enum-told-13 : tie.Need-enum-told-13
-enum-told-13 c = search needs
-
-padded-requires-13 : tie.Need-padded-requires-13
-padded-requires-13 c κs = search needs
-
-enum-told-14 : tie.Need-enum-told-14
-enum-told-14 c = search needs
-
-padded-requires-14 : tie.Need-padded-requires-14
-padded-requires-14 c κs = search needs
-
 returns : tie.Need-returns
 unfolding wordText codes
 returns c = rw (c .padded .ensures, c .before .before .before .enum-told .given .1) (lit≤ tt, refl)
@@ -149,45 +65,10 @@ pub word-of-spec : {M : Type 1} → statement M
 word-of-spec =
     tie.close
     (tie.spec
-    enum-told
-    padded-requires
-    enum-told-2
-    padded-requires-2
-    enum-told-3
-    padded-requires-3
-    enum-told-4
-    padded-requires-4
-    enum-told-5
-    padded-requires-5
-    enum-told-6
-    padded-requires-6
-    enum-told-7
-    padded-requires-7
-    enum-told-8
-    padded-requires-8
-    enum-told-9
-    padded-requires-9
-    enum-told-10
-    padded-requires-10
-    enum-told-11
-    padded-requires-11
-    enum-told-12
-    padded-requires-12
-    enum-told-13
-    padded-requires-13
-    enum-told-14
-    padded-requires-14
-    returns
-    returns-2
-    returns-3
-    returns-4
-    returns-5
-    returns-6
-    returns-7
-    returns-8
-    returns-9
-    returns-10
-    returns-11
-    returns-12
-    returns-13
-    returns-14)
+    (λ c. search needs) (λ c κs. search needs) (λ c. search needs) (λ c κs. search needs) (λ c. search needs)
+    (λ c κs. search needs) (λ c. search needs) (λ c κs. search needs) (λ c. search needs) (λ c κs. search needs)
+    (λ c. search needs) (λ c κs. search needs) (λ c. search needs) (λ c κs. search needs) (λ c. search needs)
+    (λ c κs. search needs) (λ c. search needs) (λ c κs. search needs) (λ c. search needs) (λ c κs. search needs)
+    (λ c. search needs) (λ c κs. search needs) (λ c. search needs) (λ c κs. search needs) (λ c. search needs)
+    (λ c κs. search needs) (λ c. search needs) (λ c κs. search needs) returns returns-2 returns-3 returns-4 returns-5
+    returns-6 returns-7 returns-8 returns-9 returns-10 returns-11 returns-12 returns-13 returns-14)

@@ -3,11 +3,9 @@ use borrow.Author.Needs.{needs}
 use Rattle.bus.proofs.Bus.answer.Statement.{statement}
 use Rattle.bus.proofs.Bus.answer.Tie as tie
 
-one-requires : tie.Need-one-requires
-one-requires c κs = search needs
-
 returns : tie.Need-returns
 returns c = rw (c .one .ensures .0) refl
 
 pub answer-spec : {M : Type 1} → statement M
-answer-spec = tie.close (tie.spec one-requires returns)
+answer-spec = tie.close (tie.spec
+    (λ c κs. search needs) returns)

@@ -9,24 +9,6 @@ use borrow.Author.Needs.{needs}
 use Rattle.bus.proofs.Bus.attend.Statement.{statement}
 use Rattle.bus.proofs.Bus.attend.Tie as tie
 
-sweep-requires : tie.Need-sweep-requires
-sweep-requires c κs = search needs
-
-is-on-requires : tie.Need-is-on-requires
-is-on-requires c κs = search needs
-
-change-all-requires : tie.Need-change-all-requires
-change-all-requires c κs = search needs
-
-stands-requires : tie.Need-stands-requires
-stands-requires c κs = search needs
-
-unless-requires : tie.Need-unless-requires
-unless-requires c κs = search needs
-
-answer-requires : tie.Need-answer-requires
-answer-requires c κs = search needs
-
 returns : tie.Need-returns
 returns c =
     let s = c .before .before .before .before .before .before in
@@ -47,4 +29,6 @@ returns c =
 pub attend-spec : {M : Type 1} → statement M
 attend-spec =
     tie.close
-    (tie.spec sweep-requires is-on-requires change-all-requires stands-requires unless-requires answer-requires returns)
+    (tie.spec
+    (λ c κs. search needs) (λ c κs. search needs) (λ c κs. search needs) (λ c κs. search needs) (λ c κs. search needs)
+    (λ c κs. search needs) returns)

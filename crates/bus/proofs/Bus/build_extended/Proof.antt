@@ -11,12 +11,6 @@ use Rattle.bus.proofs.Built.{fits}
 use Rattle.bus.proofs.Bus.build_extended.Statement.{statement}
 use Rattle.bus.proofs.Bus.build_extended.Tie as tie
 
-is-bad-requires : tie.Need-is-bad-requires
-is-bad-requires c κs = search needs
-
-refuse-requires : tie.Need-refuse-requires
-refuse-requires c κs = search needs
-
 returns : tie.Need-returns
 returns c = simp (c .refuse .ensures, sym (c .before .before .is-bad .ensures) ∙ c .before .if1 .taken)
 
@@ -26,12 +20,6 @@ parties-at-requires c κs =
     let few = fits (names (a .addresses .now) (a .secondaries .now)) (a .system) (sym (c .before .is-bad .ensures) ∙ c .if1 .left) in
     let z = names-length (a .addresses .now) (a .secondaries .now) in
     omega arith
-
-cast-t27 : tie.Need-cast-t27
-cast-t27 c = search needs
-
-refuse-requires-2 : tie.Need-refuse-requires-2
-refuse-requires-2 c κs = search needs
 
 returns-2 : tie.Need-returns-2
 returns-2 c =
@@ -45,10 +33,5 @@ pub build-extended-spec : {M : Type 1} → statement M
 build-extended-spec =
     tie.close
     (tie.spec
-    is-bad-requires
-    refuse-requires
-    returns
-    parties-at-requires
-    cast-t27
-    refuse-requires-2
-    returns-2)
+    (λ c κs. search needs) (λ c κs. search needs) returns parties-at-requires (λ c. search needs)
+    (λ c κs. search needs) returns-2)

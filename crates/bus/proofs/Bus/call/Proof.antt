@@ -14,51 +14,6 @@ use borrow.Author.Needs.{needs}
 use Rattle.bus.proofs.Bus.call.Statement.{statement}
 use Rattle.bus.proofs.Bus.call.Tie as tie
 
-place-requires : tie.Need-place-requires
-place-requires c κs = search needs
-
-slot-requires : tie.Need-slot-requires
-slot-requires c κs = search needs
-
-has-end-requires : tie.Need-has-end-requires
-has-end-requires c κs = search needs
-
-sweep-requires : tie.Need-sweep-requires
-sweep-requires c κs = search needs
-
-told-requires : tie.Need-told-requires
-told-requires c κs = search needs
-
-mul-p : tie.Need-mul-p
-mul-p c = search needs
-
-array-copy-out-p : tie.Need-array-copy-out-p
-array-copy-out-p c = search needs
-
-is-inside-requires : tie.Need-is-inside-requires
-is-inside-requires c κs = search needs
-
-is-command-of-requires : tie.Need-is-command-of-requires
-is-command-of-requires c κs = search needs
-
-is-found-requires : tie.Need-is-found-requires
-is-found-requires c κs = search needs
-
-judged-requires : tie.Need-judged-requires
-judged-requires c κs = search needs
-
-is-accepted-requires : tie.Need-is-accepted-requires
-is-accepted-requires c κs = search needs
-
-effect-of-requires : tie.Need-effect-of-requires
-effect-of-requires c κs = search needs
-
-follow-requires : tie.Need-follow-requires
-follow-requires c κs = search needs
-
-refuse-requires : tie.Need-refuse-requires
-refuse-requires c κs = search needs
-
 -- What it was told by the pass is what the machine reads.
 heard : (v : tie.After-told) → let w = v .before .before .before .before in let a = w .before .before .before .args in v .told .result ≡ scanOf (w .before .slot .result) (a .self .count) (a .self .parties) (hasEnd (a .self .standing))
 heard v =
@@ -110,20 +65,7 @@ pub call-spec : {M : Type 1} → statement M
 call-spec =
     tie.close
     (tie.spec
-    place-requires
-    slot-requires
-    sweep-requires
-    has-end-requires
-    told-requires
-    mul-p
-    array-copy-out-p
-    is-inside-requires
-    is-command-of-requires
-    is-found-requires
-    judged-requires
-    is-accepted-requires
-    effect-of-requires
-    follow-requires
-    refuse-requires
-    returns
-    returns-2)
+    (λ c κs. search needs) (λ c κs. search needs) (λ c κs. search needs) (λ c κs. search needs) (λ c κs. search needs)
+    (λ c. search needs) (λ c. search needs) (λ c κs. search needs) (λ c κs. search needs) (λ c κs. search needs)
+    (λ c κs. search needs) (λ c κs. search needs) (λ c κs. search needs) (λ c κs. search needs) (λ c κs. search needs)
+    returns returns-2)

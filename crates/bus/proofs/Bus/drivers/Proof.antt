@@ -5,21 +5,6 @@ use borrow.Author.Needs.{needs}
 use Rattle.bus.proofs.Bus.drivers.Statement.{statement}
 use Rattle.bus.proofs.Bus.drivers.Tie as tie
 
-sweep-requires : tie.Need-sweep-requires
-sweep-requires c κs = search needs
-
-end-mask-requires : tie.Need-end-mask-requires
-end-mask-requires c κs = search needs
-
-masks-requires : tie.Need-masks-requires
-masks-requires c κs = search needs
-
-counts-requires : tie.Need-counts-requires
-counts-requires c κs = search needs
-
-call-requires : tie.Need-call-requires
-call-requires c κs = search needs
-
 returns : tie.Need-returns
 returns c =
     let b = c .before .before .before .before .before .before .args .self in
@@ -30,9 +15,5 @@ pub drivers-spec : {M : Type 1} → statement M
 drivers-spec =
     tie.close
     (tie.spec
-    sweep-requires
-    end-mask-requires
-    masks-requires
-    counts-requires
-    call-requires
+    (λ c κs. search needs) (λ c κs. search needs) (λ c κs. search needs) (λ c κs. search needs) (λ c κs. search needs)
     returns)

@@ -2,12 +2,6 @@ use borrow.Author.Needs.{needs}
 use Rattle.effect.proofs.Effect.moved.Statement.{statement}
 use Rattle.effect.proofs.Effect.moved.Tie as tie
 
-say-requires : tie.Need-say-requires
-say-requires c κs = search needs
-
-does-requires : tie.Need-does-requires
-does-requires c κs = search needs
-
 returns : tie.Need-returns
 returns c =
     simp (
@@ -16,4 +10,5 @@ returns c =
     )
 
 pub moved-spec : {M : Type 1} → statement M
-moved-spec = tie.close (tie.spec say-requires does-requires returns)
+moved-spec = tie.close (tie.spec
+    (λ c κs. search needs) (λ c κs. search needs) returns)

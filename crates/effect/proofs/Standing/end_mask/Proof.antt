@@ -7,18 +7,6 @@ use Rattle.parties.proofs.Bits.{bits-none, mask-if}
 use Rattle.effect.proofs.Standing.end_mask.Statement.{statement}
 use Rattle.effect.proofs.Standing.end_mask.Tie as tie
 
-enum-told : tie.Need-enum-told
-enum-told c = search needs
-
-enum-known-self : tie.Need-enum-known-self
-enum-known-self c = search needs
-
-bit-of-requires : tie.Need-bit-of-requires
-bit-of-requires c κs = search needs
-
-only-if-requires : tie.Need-only-if-requires
-only-if-requires c κs = search needs
-
 returns : tie.Need-returns
 returns c = rw (c .enum-told .given .1) (sym (bits-none 0 (within (c .before .before .args .count)) (λ i. false) (λ i. refl)))
 
@@ -31,4 +19,5 @@ returns-2 c =
 pub end-mask-spec : {M : Type 1} → statement M
 end-mask-spec =
     tie.close
-    (tie.spec enum-told enum-known-self bit-of-requires only-if-requires returns returns-2)
+    (tie.spec
+    (λ c. search needs) (λ c. search needs) (λ c κs. search needs) (λ c κs. search needs) returns returns-2)

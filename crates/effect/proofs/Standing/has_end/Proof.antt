@@ -2,18 +2,10 @@ use borrow.Author.Needs.{needs}
 use Rattle.effect.proofs.Standing.has_end.Statement.{statement}
 use Rattle.effect.proofs.Standing.has_end.Tie as tie
 
-enum-told : tie.Need-enum-told
-enum-told c = search needs
-
-enum-known-self : tie.Need-enum-known-self
-enum-known-self c = search needs
-
-returns : tie.Need-returns
-returns c = search needs
-
 returns-2 : tie.Need-returns-2
 returns-2 c =
     simp (c .before .self .given .1)
 
 pub has-end-spec : {M : Type 1} → statement M
-has-end-spec = tie.close (tie.spec enum-told enum-known-self returns returns-2)
+has-end-spec = tie.close (tie.spec
+    (λ c. search needs) (λ c. search needs) (λ c. search needs) returns-2)

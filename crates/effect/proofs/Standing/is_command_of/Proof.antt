@@ -2,24 +2,6 @@ use borrow.Author.Needs.{needs}
 use Rattle.effect.proofs.Standing.is_command_of.Statement.{statement}
 use Rattle.effect.proofs.Standing.is_command_of.Tie as tie
 
-enum-told : tie.Need-enum-told
-enum-told c = search needs
-
-enum-known-self : tie.Need-enum-known-self
-enum-known-self c = search needs
-
-enum-told-2 : tie.Need-enum-told-2
-enum-told-2 c = search needs
-
-enum-told-3 : tie.Need-enum-told-3
-enum-told-3 c = search needs
-
-enum-told-4 : tie.Need-enum-told-4
-enum-told-4 c = search needs
-
-returns : tie.Need-returns
-returns c = search needs
-
 returns-2 : tie.Need-returns-2
 returns-2 c =
     simp (
@@ -45,12 +27,5 @@ pub is-command-of-spec : {M : Type 1} → statement M
 is-command-of-spec =
     tie.close
     (tie.spec
-    enum-told
-    enum-known-self
-    enum-told-2
-    enum-told-3
-    enum-told-4
-    returns
-    returns-2
-    returns-3
-    returns-4)
+    (λ c. search needs) (λ c. search needs) (λ c. search needs) (λ c. search needs) (λ c. search needs)
+    (λ c. search needs) returns-2 returns-3 returns-4)

@@ -3,15 +3,6 @@ use borrow.Author.Needs.{needs}
 use Rattle.effect.proofs.Standing.is_left.Statement.{statement}
 use Rattle.effect.proofs.Standing.is_left.Tie as tie
 
-enum-told : tie.Need-enum-told
-enum-told c = search needs
-
-enum-known-self : tie.Need-enum-known-self
-enum-known-self c = search needs
-
-returns : tie.Need-returns
-returns c = search needs
-
 returns-2 : tie.Need-returns-2
 returns-2 c = simp (c .if2 .taken, lt-ltb _ 15 (c .before .if1 .taken), c .before .before .before .before .self .given .1)
 
@@ -22,4 +13,5 @@ returns-4 : tie.Need-returns-4
 returns-4 c = simp (le-ltb _ 15 (c .if1 .left), c .before .before .before .self .given .1)
 
 pub is-left-spec : {M : Type 1} → statement M
-is-left-spec = tie.close (tie.spec enum-told enum-known-self returns returns-2 returns-3 returns-4)
+is-left-spec = tie.close (tie.spec
+    (λ c. search needs) (λ c. search needs) (λ c. search needs) returns-2 returns-3 returns-4)

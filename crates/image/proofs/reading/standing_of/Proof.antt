@@ -3,15 +3,6 @@ use borrow.Author.Tests.{ne-eqb}
 use Rattle.image.proofs.reading.standing_of.Statement.{statement}
 use Rattle.image.proofs.reading.standing_of.Tie as tie
 
-byte-of-requires : tie.Need-byte-of-requires
-byte-of-requires c κs = search needs
-
-byte-of-requires-2 : tie.Need-byte-of-requires-2
-byte-of-requires-2 c κs = search needs
-
-byte-of-requires-3 : tie.Need-byte-of-requires-3
-byte-of-requires-3 c κs = search needs
-
 returns : tie.Need-returns
 returns c = simp (c .byte-of .ensures, c .before .match .keys1)
 
@@ -28,10 +19,4 @@ pub standing-of-spec : {M : Type 1} → statement M
 standing-of-spec =
     tie.close
     (tie.spec
-    byte-of-requires
-    byte-of-requires-2
-    byte-of-requires-3
-    returns
-    returns-2
-    returns-3
-    returns-4)
+    (λ c κs. search needs) (λ c κs. search needs) (λ c κs. search needs) returns returns-2 returns-3 returns-4)

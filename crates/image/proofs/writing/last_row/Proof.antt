@@ -2,21 +2,6 @@ use borrow.Author.Needs.{needs}
 use Rattle.image.proofs.writing.last_row.Statement.{statement}
 use Rattle.image.proofs.writing.last_row.Tie as tie
 
-standing-tag-requires : tie.Need-standing-tag-requires
-standing-tag-requires c κs = search needs
-
-standing-sender-requires : tie.Need-standing-sender-requires
-standing-sender-requires c κs = search needs
-
-standing-value-requires : tie.Need-standing-value-requires
-standing-value-requires c κs = search needs
-
-has-end-requires : tie.Need-has-end-requires
-has-end-requires c κs = search needs
-
-one-requires : tie.Need-one-requires
-one-requires c κs = search needs
-
 returns : tie.Need-returns
 returns c =
     simp (
@@ -31,9 +16,5 @@ pub last-row-spec : {M : Type 1} → statement M
 last-row-spec =
     tie.close
     (tie.spec
-    standing-tag-requires
-    standing-sender-requires
-    standing-value-requires
-    has-end-requires
-    one-requires
+    (λ c κs. search needs) (λ c κs. search needs) (λ c κs. search needs) (λ c κs. search needs) (λ c κs. search needs)
     returns)

@@ -3,15 +3,6 @@ use borrow.Author.Needs.{needs}
 use Rattle.meskvorn.proofs.builds.name_number.Statement.{statement}
 use Rattle.meskvorn.proofs.builds.name_number.Tie as tie
 
-party-at-requires : tie.Need-party-at-requires
-party-at-requires c κs = search needs
-
-is-inside-requires : tie.Need-is-inside-requires
-is-inside-requires c κs = search needs
-
-packed-name-requires : tie.Need-packed-name-requires
-packed-name-requires c κs = search needs
-
 returns : tie.Need-returns
 returns c = simp (c .packed-name .ensures, sym (c .before .before .is-inside .ensures) ∙ c .before .if1 .taken, c .before .before .before .before .before .party-at .ensures)
 
@@ -19,4 +10,5 @@ returns-2 : tie.Need-returns-2
 returns-2 c = simp (sym (c .before .is-inside .ensures) ∙ c .if1 .left)
 
 pub name-number-spec : {M : Type 1} → statement M
-name-number-spec = tie.close (tie.spec party-at-requires is-inside-requires packed-name-requires returns returns-2)
+name-number-spec = tie.close (tie.spec
+    (λ c κs. search needs) (λ c κs. search needs) (λ c κs. search needs) returns returns-2)

@@ -6,18 +6,9 @@ use Rattle.meskvorn.specs.Host.{answerTo}
 use Rattle.meskvorn.proofs.calls.answer_to.Statement.{statement}
 use Rattle.meskvorn.proofs.calls.answer_to.Tie as tie
 
-refuse-requires : tie.Need-refuse-requires
-refuse-requires c κs = search needs
-
 returns : tie.Need-returns
 unfolding answerTo
 returns c = rw (eq-eqb _ _ (c .before .if1 .taken)) (c .refuse .ensures)
-
-order-of-requires : tie.Need-order-of-requires
-order-of-requires c κs = search needs
-
-obey-requires : tie.Need-obey-requires
-obey-requires c κs = search needs
 
 returns-2 : tie.Need-returns-2
 unfolding answerTo
@@ -25,4 +16,5 @@ returns-2 c = rw (ne-eqb _ _ (c .before .before .if1 .left)) (c .obey .ensures �
 
 pub answer-to-spec : {M : Type 1} → statement M
 answer-to-spec =
-    tie.close (tie.spec refuse-requires returns order-of-requires obey-requires returns-2)
+    tie.close (tie.spec
+    (λ c κs. search needs) returns (λ c κs. search needs) (λ c κs. search needs) returns-2)

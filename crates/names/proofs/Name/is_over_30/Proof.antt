@@ -3,9 +3,6 @@ use borrow.Author.Needs.{needs}
 use Rattle.names.proofs.Name.is_over_30.Statement.{statement}
 use Rattle.names.proofs.Name.is_over_30.Tie as tie
 
-is-over-30-requires : tie.Need-is-over-30-requires
-is-over-30-requires c κs = search needs
-
 returns : tie.Need-returns
 returns c = simp (lt-ltb 30 _ (c .if1 .taken))
 
@@ -13,4 +10,5 @@ returns-2 : tie.Need-returns-2
 returns-2 c = simp (c .is-over-30 .ensures, le-ltb 30 _ (c .before .if1 .left))
 
 pub is-over-30-spec : {M : Type 1} → statement M
-is-over-30-spec = tie.close (tie.spec is-over-30-requires returns returns-2)
+is-over-30-spec = tie.close (tie.spec
+    (λ c κs. search needs) returns returns-2)

@@ -9,18 +9,6 @@ use borrow.Author.Needs.{needs}
 use Rattle.parties.proofs.every.party_at.Statement.{statement}
 use Rattle.parties.proofs.every.party_at.Tie as tie
 
-cast-i : tie.Need-cast-i
-cast-i c = search needs
-
-mul-result : tie.Need-mul-result
-mul-result c = search needs
-
-array-copy-out-result : tie.Need-array-copy-out-result
-array-copy-out-result c = search needs
-
-returns : tie.Need-returns
-returns c = search needs
-
 returns-2 : tie.Need-returns-2
 returns-2 c =
     let l = c .before .before .args .t1 in
@@ -29,4 +17,5 @@ returns-2 c =
     sym (List·getD-eq-default l idle m)
 
 pub party-at-spec : {M : Type 1} → statement M
-party-at-spec = tie.close (tie.spec cast-i mul-result array-copy-out-result returns returns-2)
+party-at-spec = tie.close (tie.spec
+    (λ c. search needs) (λ c. search needs) (λ c. search needs) (λ c. search needs) returns-2)

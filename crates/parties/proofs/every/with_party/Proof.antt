@@ -9,18 +9,6 @@ use borrow.Author.Needs.{needs}
 use Rattle.parties.proofs.every.with_party.Statement.{statement}
 use Rattle.parties.proofs.every.with_party.Tie as tie
 
-cast-i : tie.Need-cast-i
-cast-i c = search needs
-
-mul-out : tie.Need-mul-out
-mul-out c = search needs
-
-array-set-from-out : tie.Need-array-set-from-out
-array-set-from-out c = search needs
-
-returns : tie.Need-returns
-returns c = search needs
-
 returns-2 : tie.Need-returns-2
 returns-2 c =
     let l = c .before .before .args .ps in
@@ -29,4 +17,5 @@ returns-2 c =
     sym (set-out l (c .before .before .args .p .0) (c .before .before .args .q) m)
 
 pub with-party-spec : {M : Type 1} → statement M
-with-party-spec = tie.close (tie.spec cast-i mul-out array-set-from-out returns returns-2)
+with-party-spec = tie.close (tie.spec
+    (λ c. search needs) (λ c. search needs) (λ c. search needs) (λ c. search needs) returns-2)

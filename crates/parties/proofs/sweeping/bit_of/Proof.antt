@@ -8,18 +8,6 @@ use Rattle.parties.proofs.Bits.{shifted, bit-alone}
 use Rattle.parties.proofs.sweeping.bit_of.Statement.{statement}
 use Rattle.parties.proofs.sweeping.bit_of.Tie as tie
 
-within-places-requires : tie.Need-within-places-requires
-within-places-requires c κs = search needs
-
-cast-at : tie.Need-cast-at
-cast-at c = search needs
-
-cast-result : tie.Need-cast-result
-cast-result c = search needs
-
-shl-result : tie.Need-shl-result
-shl-result c = search needs
-
 returns : tie.Need-returns
 returns c =
     let a = c .before .before .before .args in
@@ -36,4 +24,5 @@ returns-2 c =
     rw (bit-alone (within (a .count)) (a .p .0), le-ltb (a .p .0) (within (a .count)) (omega arith)) refl
 
 pub bit-of-spec : {M : Type 1} → statement M
-bit-of-spec = tie.close (tie.spec within-places-requires cast-at cast-result shl-result returns returns-2)
+bit-of-spec = tie.close (tie.spec
+    (λ c κs. search needs) (λ c. search needs) (λ c. search needs) (λ c. search needs) returns returns-2)

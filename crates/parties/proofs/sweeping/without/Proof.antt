@@ -5,15 +5,6 @@ use Rattle.parties.proofs.Bits.{shifted, has-bit}
 use Rattle.parties.proofs.sweeping.without.Statement.{statement}
 use Rattle.parties.proofs.sweeping.without.Tie as tie
 
-cast-shift : tie.Need-cast-shift
-cast-shift c = search needs
-
-shr-if2 : tie.Need-shr-if2
-shr-if2 c = search needs
-
-shl-result : tie.Need-shl-result
-shl-result c = search needs
-
 sub-result : tie.Need-sub-result
 sub-result c = let a = c .before .before .args in rw (shifted (a .i) (c .before .if1 .taken)) (has-bit (a .m) (a .i) (c .if2 .taken))
 
@@ -28,4 +19,5 @@ returns-3 c = rw (le-ltb (c .before .args .i) 15 (c .if1 .left)) refl
 
 pub without-spec : {M : Type 1} → statement M
 without-spec =
-    tie.close (tie.spec cast-shift shr-if2 shl-result sub-result returns returns-2 returns-3)
+    tie.close (tie.spec
+    (λ c. search needs) (λ c. search needs) (λ c. search needs) sub-result returns returns-2 returns-3)

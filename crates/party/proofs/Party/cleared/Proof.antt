@@ -3,21 +3,6 @@ use borrow.Author.Needs.{needs}
 use Rattle.party.proofs.Party.cleared.Statement.{statement}
 use Rattle.party.proofs.Party.cleared.Tie as tie
 
-with-control-requires : tie.Need-with-control-requires
-with-control-requires c κs = search needs
-
-unaddressed-requires : tie.Need-unaddressed-requires
-unaddressed-requires c κs = search needs
-
-with-role-requires : tie.Need-with-role-requires
-with-role-requires c κs = search needs
-
-is-active-requires : tie.Need-is-active-requires
-is-active-requires c κs = search needs
-
-with-held-requires : tie.Need-with-held-requires
-with-held-requires c κs = search needs
-
 returns : tie.Need-returns
 returns c =
     simp (
@@ -41,10 +26,5 @@ pub cleared-spec : {M : Type 1} → statement M
 cleared-spec =
     tie.close
     (tie.spec
-    with-control-requires
-    unaddressed-requires
-    with-role-requires
-    is-active-requires
-    with-held-requires
-    returns
-    returns-2)
+    (λ c κs. search needs) (λ c κs. search needs) (λ c κs. search needs) (λ c κs. search needs) (λ c κs. search needs)
+    returns returns-2)

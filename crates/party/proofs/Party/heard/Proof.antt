@@ -2,15 +2,6 @@ use borrow.Author.Needs.{needs}
 use Rattle.party.proofs.Party.heard.Statement.{statement}
 use Rattle.party.proofs.Party.heard.Tie as tie
 
-meaning-of-requires : tie.Need-meaning-of-requires
-meaning-of-requires c κs = search needs
-
-heard-requires : tie.Need-heard-requires
-heard-requires c κs = search needs
-
-with-role-requires : tie.Need-with-role-requires
-with-role-requires c κs = search needs
-
 returns : tie.Need-returns
 returns c =
     simp (
@@ -20,4 +11,5 @@ returns c =
     )
 
 pub heard-spec : {M : Type 1} → statement M
-heard-spec = tie.close (tie.spec meaning-of-requires heard-requires with-role-requires returns)
+heard-spec = tie.close (tie.spec
+    (λ c κs. search needs) (λ c κs. search needs) (λ c κs. search needs) returns)

@@ -2,78 +2,6 @@ use borrow.Author.Needs.{needs}
 use Rattle.role.proofs.Role.addressed.Statement.{statement}
 use Rattle.role.proofs.Role.addressed.Tie as tie
 
-enum-told : tie.Need-enum-told
-enum-told c = search needs
-
-enum-known-m : tie.Need-enum-known-m
-enum-known-m c = search needs
-
-owns-requires : tie.Need-owns-requires
-owns-requires c κs = search needs
-
-listen-addressed-requires : tie.Need-listen-addressed-requires
-listen-addressed-requires c κs = search needs
-
-enum-told-2 : tie.Need-enum-told-2
-enum-told-2 c = search needs
-
-with-flags-requires : tie.Need-with-flags-requires
-with-flags-requires c κs = search needs
-
-enum-known-m-2 : tie.Need-enum-known-m-2
-enum-known-m-2 c = search needs
-
-owns-requires-2 : tie.Need-owns-requires-2
-owns-requires-2 c κs = search needs
-
-talk-addressed-requires : tie.Need-talk-addressed-requires
-talk-addressed-requires c κs = search needs
-
-enum-told-3 : tie.Need-enum-told-3
-enum-told-3 c = search needs
-
-with-flags-requires-2 : tie.Need-with-flags-requires-2
-with-flags-requires-2 c κs = search needs
-
-enum-told-4 : tie.Need-enum-told-4
-enum-told-4 c = search needs
-
-enum-told-5 : tie.Need-enum-told-5
-enum-told-5 c = search needs
-
-enum-told-6 : tie.Need-enum-told-6
-enum-told-6 c = search needs
-
-enum-told-7 : tie.Need-enum-told-7
-enum-told-7 c = search needs
-
-enum-told-8 : tie.Need-enum-told-8
-enum-told-8 c = search needs
-
-with-poll-mode-requires : tie.Need-with-poll-mode-requires
-with-poll-mode-requires c κs = search needs
-
-enum-told-9 : tie.Need-enum-told-9
-enum-told-9 c = search needs
-
-with-poll-mode-requires-2 : tie.Need-with-poll-mode-requires-2
-with-poll-mode-requires-2 c κs = search needs
-
-enum-known-m-3 : tie.Need-enum-known-m-3
-enum-known-m-3 c = search needs
-
-owns-secondary-requires : tie.Need-owns-secondary-requires
-owns-secondary-requires c κs = search needs
-
-seconded-requires : tie.Need-seconded-requires
-seconded-requires c κs = search needs
-
-enum-told-10 : tie.Need-enum-told-10
-enum-told-10 c = search needs
-
-returns : tie.Need-returns
-returns c = search needs
-
 returns-2 : tie.Need-returns-2
 returns-2 c = simp (c .listen-addressed .ensures, c .before .owns .ensures, c .before .before .before .m .given .1)
 
@@ -86,18 +14,6 @@ returns-4 c = simp (c .talk-addressed .ensures, c .before .owns2 .ensures, c .be
 returns-5 : tie.Need-returns-5
 returns-5 c = simp (c .with-flags2 .ensures, c .before .enum-told3 .given .1)
 
-returns-6 : tie.Need-returns-6
-returns-6 c = search needs
-
-returns-7 : tie.Need-returns-7
-returns-7 c = search needs
-
-returns-8 : tie.Need-returns-8
-returns-8 c = search needs
-
-returns-9 : tie.Need-returns-9
-returns-9 c = search needs
-
 returns-10 : tie.Need-returns-10
 returns-10 c = simp (c .with-poll-mode .ensures, c .before .enum-told8 .given .1)
 
@@ -107,46 +23,14 @@ returns-11 c = simp (c .with-poll-mode2 .ensures, c .before .enum-told9 .given .
 returns-12 : tie.Need-returns-12
 returns-12 c = simp (c .seconded .ensures, c .before .owns-secondary .ensures, c .before .before .before .m3 .given .1)
 
-returns-13 : tie.Need-returns-13
-returns-13 c = search needs
-
 pub addressed-spec : {M : Type 1} → statement M
 addressed-spec =
     tie.close
     (tie.spec
-    enum-told
-    enum-known-m
-    owns-requires
-    listen-addressed-requires
-    enum-told-2
-    with-flags-requires
-    enum-known-m-2
-    owns-requires-2
-    talk-addressed-requires
-    enum-told-3
-    with-flags-requires-2
-    enum-told-4
-    enum-told-5
-    enum-told-6
-    enum-told-7
-    enum-told-8
-    with-poll-mode-requires
-    enum-told-9
-    with-poll-mode-requires-2
-    enum-known-m-3
-    owns-secondary-requires
-    seconded-requires
-    enum-told-10
-    returns
-    returns-2
-    returns-3
-    returns-4
-    returns-5
-    returns-6
-    returns-7
-    returns-8
-    returns-9
-    returns-10
-    returns-11
-    returns-12
-    returns-13)
+    (λ c. search needs) (λ c. search needs) (λ c κs. search needs) (λ c κs. search needs) (λ c. search needs)
+    (λ c κs. search needs) (λ c. search needs) (λ c κs. search needs) (λ c κs. search needs) (λ c. search needs)
+    (λ c κs. search needs) (λ c. search needs) (λ c. search needs) (λ c. search needs) (λ c. search needs)
+    (λ c. search needs) (λ c κs. search needs) (λ c. search needs) (λ c κs. search needs) (λ c. search needs)
+    (λ c κs. search needs) (λ c κs. search needs) (λ c. search needs) (λ c. search needs) returns-2 returns-3 returns-4
+    returns-5 (λ c. search needs) (λ c. search needs) (λ c. search needs) (λ c. search needs) returns-10 returns-11
+    returns-12 (λ c. search needs))

@@ -2,15 +2,6 @@ use borrow.Author.Needs.{needs}
 use Rattle.role.proofs.Role.heard.Statement.{statement}
 use Rattle.role.proofs.Role.heard.Tie as tie
 
-addressed-requires : tie.Need-addressed-requires
-addressed-requires c κs = search needs
-
-mark-after-requires : tie.Need-mark-after-requires
-mark-after-requires c κs = search needs
-
-with-mark-requires : tie.Need-with-mark-requires
-with-mark-requires c κs = search needs
-
 returns : tie.Need-returns
 returns c =
     simp (
@@ -20,4 +11,5 @@ returns c =
     )
 
 pub heard-spec : {M : Type 1} → statement M
-heard-spec = tie.close (tie.spec addressed-requires mark-after-requires with-mark-requires returns)
+heard-spec = tie.close (tie.spec
+    (λ c κs. search needs) (λ c κs. search needs) (λ c κs. search needs) returns)

@@ -2,27 +2,6 @@ use borrow.Author.Needs.{needs}
 use Rattle.role.proofs.Role.seconded.Statement.{statement}
 use Rattle.role.proofs.Role.seconded.Tie as tie
 
-enum-told : tie.Need-enum-told
-enum-told c = search needs
-
-enum-told-2 : tie.Need-enum-told-2
-enum-told-2 c = search needs
-
-with-flags-requires : tie.Need-with-flags-requires
-with-flags-requires c κs = search needs
-
-with-flags-requires-2 : tie.Need-with-flags-requires-2
-with-flags-requires-2 c κs = search needs
-
-enum-told-3 : tie.Need-enum-told-3
-enum-told-3 c = search needs
-
-with-flags-requires-3 : tie.Need-with-flags-requires-3
-with-flags-requires-3 c κs = search needs
-
-returns : tie.Need-returns
-returns c = search needs
-
 returns-2 : tie.Need-returns-2
 returns-2 c =
     simp (
@@ -47,21 +26,9 @@ returns-4 c =
       c .before .before .enum-told3 .given .1,
     )
 
-returns-5 : tie.Need-returns-5
-returns-5 c = search needs
-
 pub seconded-spec : {M : Type 1} → statement M
 seconded-spec =
     tie.close
     (tie.spec
-    enum-told
-    enum-told-2
-    with-flags-requires
-    with-flags-requires-2
-    enum-told-3
-    with-flags-requires-3
-    returns
-    returns-2
-    returns-3
-    returns-4
-    returns-5)
+    (λ c. search needs) (λ c. search needs) (λ c κs. search needs) (λ c κs. search needs) (λ c. search needs)
+    (λ c κs. search needs) (λ c. search needs) returns-2 returns-3 returns-4 (λ c. search needs))

@@ -2,12 +2,6 @@ use borrow.Author.Needs.{needs}
 use Rattle.service.proofs.Request.reported.Statement.{statement}
 use Rattle.service.proofs.Request.reported.Tie as tie
 
-keeps-rsv2-requires : tie.Need-keeps-rsv2-requires
-keeps-rsv2-requires c κs = search needs
-
-with-rsv2-requires : tie.Need-with-rsv2-requires
-with-rsv2-requires c κs = search needs
-
 returns : tie.Need-returns
 returns c =
     simp (
@@ -16,4 +10,5 @@ returns c =
     )
 
 pub reported-spec : {M : Type 1} → statement M
-reported-spec = tie.close (tie.spec keeps-rsv2-requires with-rsv2-requires returns)
+reported-spec = tie.close (tie.spec
+    (λ c κs. search needs) (λ c κs. search needs) returns)
