@@ -7,7 +7,7 @@ use Rattle.role.specs.Hearing.{hearEvent}
 use Rattle.offer.specs.Offer.{isFull}
 use Rattle.party.specs.Parts.{withAcceptor, withInput}
 use Rattle.party.specs.Hearing.{heardBy}
-use Rattle.acceptor_step.specs.Types.{Party, Acceptor, Aids, Anrs, Acrs, Acds, Awns, Full, Lines, Standing, Nothing, Byte, Effect}
+use Rattle.acceptor_step.specs.Types.{Party, Acceptor, Aids, Anrs, Acrs, Acds, Awns, Full, Lines, Standing, Nothing, Byte, Effect, View}
 use Rattle.acceptor_step.specs.Types.ev
 use Rattle.effect.specs.Effects.{say, does, stay, move}
 
@@ -36,5 +36,5 @@ acceptorStep Acrs l st p = cond (l .dav) (take (l .atn) st p) (stay st p)
 acceptorStep Acds l st p = move st (withAcceptor Awns p)
 acceptorStep Awns l st p = cond (l .dav) (stay st p) (move st (withAcceptor Anrs p))
 
-abbrev pub acceptorEffect : Lines → Standing → Party → Effect
-acceptorEffect l st p = acceptorStep (p .acceptor) l st p
+abbrev pub acceptorEffect : View → Effect
+acceptorEffect v = acceptorStep (v .party .acceptor) (v .lines) (v .standing) (v .party)

@@ -8,3 +8,4 @@ pub use Rattle.parties.specs.declared.Lines.{Lines}
 pub use Rattle.effect.specs.declared.Standing.{Standing}
 pub use Rattle.effect.specs.declared.Standing.the-variants.{Nothing, Byte}
 pub use Rattle.effect.specs.declared.Effect.{Effect}
+pub use Rattle.effect.specs.declared.View.{View}

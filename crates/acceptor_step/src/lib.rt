@@ -4,10 +4,10 @@ ghost use Rattle.acceptor_step.specs.AcceptorStep.{hearing, take, readyi
 use effect::Effect;
 use effect::Said;
 use effect::Standing;
+use effect::View;
 use event::Event;
 use message::meaning_of;
 use offer::Slot;
-use parties::Lines;
 use party::Acceptor;
 use party::Party;
 use role::hearing::hear_event;
@@ -61,9 +61,12 @@ fn from_anrs(atn: bool, full: bool, st: Standing, p: Party) -> Effect
     }
 }
 
-pub fn acceptor_step(l: Lines, st: Standing, p: Party) -> Effect
-    ensures { λ r. ⌜ r ≡ acceptorEffect l st p ⌝ }
+pub fn acceptor_step(v: View) -> Effect
+    ensures { λ r. ⌜ r ≡ acceptorEffect v ⌝ }
 {
+    let l = v.lines;
+    let st = v.standing;
+    let p = v.party;
     let acceptor = p.acceptor;
     let input = p.input;
     match acceptor {

@@ -16,6 +16,7 @@ use Rattle.party.proofs.Settled.{source-of-active}
 use Rattle.bus.specs.Types.{Place, Party, Strs, Acceptor, Aids, Anrs, Acrs, Acds, Awns, Kind, Event, Standing, Nothing, Byte, Bus, Effect}
 use Rattle.bus.specs.Types.ev
 use Rattle.bus.specs.Types.call-of
+use Rattle.bus.specs.Types.act-of
 use Rattle.bus.specs.Record.{here, lines}
 use Rattle.effect.specs.Stands.{stands}
 use Rattle.effect.specs.Effects.{say, stay, move}
@@ -47,7 +48,7 @@ hear-event v l = hear-events TakeEvent
 module _ (b : Bus) (I : Inv b) (p : Place) (l : p .0 < b .count) (ns : isSource (atnOf b) (here b (p .0)) ≡ false) where
   -- what an effect of this step comes to
   G : Effect → Type 0
-  G e = Good b (call-of.Step p) (follow (atnOf b) b (p .0) e)
+  G e = Good b (call-of.Of p act-of.Step) (follow (atnOf b) b (p .0) e)
 
   not-active : isActive (here b (p .0)) ≡ false
   not-active = test (isActive (here b (p .0))) (λ h. let z = source-of-active (atnOf b) (here b (p .0)) h in no (cc)) (λ h. h)
@@ -60,12 +61,12 @@ module _ (b : Bus) (I : Inv b) (p : Place) (l : p .0 < b .count) (ns : isSource 
 
   stays : (st : Standing) → b .standing ≡ st → G (stay st (here b (p .0)))
   unfolding G
-  stays st es = subst (λ (x : Standing). Good b (call-of.Step p) (touch (atnOf b) b (p .0) (stay x (here b (p .0))))) es (stay-good b I p l)
+  stays st es = subst (λ (x : Standing). Good b (call-of.Of p act-of.Step) (touch (atnOf b) b (p .0) (stay x (here b (p .0))))) es (stay-good b I p l)
 
   hear-good : (s : Place) (k : Kind) (v : ℕ) (e : Bool) → here b (p .0) .acceptor ≡ Acrs → b .standing ≡ Byte s k v e → atnOf b ≡ true
       → G (hearing v e (b .standing) (here b (p .0)))
   unfolding G
-  hear-good s k v e ea es t = kept-good b (call-of.Step p) I (p .0) l (hearing v e (b .standing) q .said) new
+  hear-good s k v e ea es t = kept-good b (call-of.Of p act-of.Step) I (p .0) l (hearing v e (b .standing) q .said) new
       (record {
         name = hear-name (meaning v) (q .role);
         act = refl;
@@ -116,7 +117,7 @@ module _ (b : Bus) (I : Inv b) (p : Place) (l : p .0 < b .count) (ns : isSource 
   took-good : (s : Place) (k : Kind) (v : ℕ) (e : Bool) → here b (p .0) .acceptor ≡ Acrs → b .standing ≡ Byte s k v e → atnOf b ≡ false
       → G (taking v e (b .standing) (here b (p .0)))
   unfolding G
-  took-good s k v e ea es t = seated-good b (call-of.Step p) I (p .0) l (taking v e (b .standing) (here b (p .0)) .said) (taking v e (b .standing) (here b (p .0)) .party)
+  took-good s k v e ea es t = seated-good b (call-of.Of p act-of.Step) I (p .0) l (taking v e (b .standing) (here b (p .0)) .said) (taking v e (b .standing) (here b (p .0)) .party)
       (record {
         inactive = not-active;
         name = refl;
@@ -149,7 +150,7 @@ module _ (b : Bus) (I : Inv b) (p : Place) (l : p .0 < b .count) (ns : isSource 
       → (stands (b .standing) ≡ true → x ≡ Acrs → ⊥) → (atnOf b ≡ false → x ≡ Acrs → isFull (here b (p .0) .input) ≡ false) → (here b (p .0) .acceptor ≡ Acrs → ⊥)
       → G (move (b .standing) (withAcceptor x (here b (p .0))))
   unfolding G
-  shift-good x an ai pa c ac em pc = seated-good b (call-of.Step p) I (p .0) l (say ev.Moved 0 false 0) (withAcceptor x (here b (p .0)))
+  shift-good x an ai pa c ac em pc = seated-good b (call-of.Of p act-of.Step) I (p .0) l (say ev.Moved 0 false 0) (withAcceptor x (here b (p .0)))
       (record {
         inactive = not-active;
         name = refl;
@@ -210,6 +211,6 @@ module _ (b : Bus) (I : Inv b) (p : Place) (l : p .0 < b .count) (ns : isSource 
   by-state Awns ea = cond-elim G (lines b .dav) (λ _. stays (b .standing) refl)
       (λ d. shift-good _ (λ s e. let z = none-stands d in no (cc)) (λ e. no (cc)) (λ e. no (cc)) (nobody (b .standing) Anrs (here b (p .0) .acceptor) (none-stands d)) (λ s e. no (cc)) (λ t e. no (cc)) (λ e. no (cc)))
 
-  pub accept-good : (x : Acceptor) → here b (p .0) .acceptor ≡ x → Good b (call-of.Step p) (follow (atnOf b) b (p .0) (acceptorStep x (lines b) (b .standing) (here b (p .0))))
+  pub accept-good : (x : Acceptor) → here b (p .0) .acceptor ≡ x → Good b (call-of.Of p act-of.Step) (follow (atnOf b) b (p .0) (acceptorStep x (lines b) (b .standing) (here b (p .0))))
   unfolding G
   accept-good x ea = by-state x ea

@@ -17,13 +17,14 @@ use Rattle.party.specs.Clearing.{wiped, cleared, clearDrops}
 use Rattle.party.specs.Settling.{changeControl, settled}
 use Rattle.role.proofs.Logic.{no, test, cond-elim}
 use Rattle.role.proofs.Roles.{nameOf, Single, Weak, weak-unaddressed}
-use Rattle.parties.specs.Places.{at, each, total}
+use Rattle.parties.specs.Places.{place, at, each, total}
 use Rattle.parties.specs.Lines.{linesByte}
 use Rattle.parties.proofs.Places.{upd, at-set, at-each-all, length-each, total-set, total-each, total-split}
 use Rattle.bus.specs.Types.{Place, Party, Control, Idle, Standby, Active, Acceptor, Aids, Anrs, Acrs, Acds, Empty, Command, Data, Status, Standing, Nothing, Byte, Bus, Said, Call, Effect}
 use Rattle.bus.specs.Types.ruling
 use Rattle.bus.specs.Types.ev
 use Rattle.bus.specs.Types.call-of
+use Rattle.bus.specs.Types.act-of
 use Rattle.effect.specs.Words.{isAccepted}
 use Rattle.bus.specs.Record.{here, lines}
 use Rattle.effect.specs.Stands.{sendsCommand}
@@ -32,7 +33,7 @@ use Rattle.bus.specs.Settling.{settle, settleAs, deserted}
 use Rattle.host_calls.specs.HostCalls.{controlled, resetAcceptor, tell}
 use Rattle.bus.specs.Following.{alarm, touch, follow}
 use Rattle.refusals.specs.Refusals.{inStandby, standbyRefusal}
-use Rattle.bus.specs.Machine.{refusal, accepted}
+use Rattle.bus.specs.Machine.{viewAt, refusal, accepted}
 use Rattle.bus.specs.Delivery.{deed, neither, isPut, isHostPut, isTake, isEnd, isWrite, wrote, held}
 use Rattle.bus.proofs.Invariant.{busy, active-busy, sentBy, isCommand, inAcrs, is-acrs, waits, look, Inv, atnOf, settle-inv}
 use Rattle.bus.proofs.Change.{upd-all, Unique, upd-unique, same-apart, upd-apart, weak-look}
@@ -97,7 +98,7 @@ module _ (b : Bus) (I : Inv b) (p : Place) where
 
   -- who is in charge comes to control c: attention follows
   controlled-good : (c : Call) (x : Control) → wrote c ruling.Accepted ≡ 0 → p .0 < b .count → busy (here b (p .0) .control) ≡ true → sendsCommand (p .0) (b .standing) ≡ false
-      → Good b c (alarm b (p .0) (controlled x (b .standing) (here b (p .0))))
+      → Good b c (alarm b (p .0) (controlled x (viewAt p (lines b) b)))
   controlled-good c x w l h f = alarm-good b c I (heldBytes (here b (p .0))) (set (b .parties) (p .0) new) (set-len b I (p .0) new)
       (raw-set b I (p .0) l new (quietly h f) refl (λ _. h) (λ y. y) (I .pre .apart (p .0)))
       (let k = set-held b I (p .0) l new in rw w (omega arith))
@@ -105,21 +106,21 @@ module _ (b : Bus) (I : Inv b) (p : Place) where
       new : Party
       new = changeControl x (here b (p .0))
 
-  pub take-good : isAccepted (refusal (lines b) b (call-of.TakeControl p)) ≡ true → Good b (call-of.TakeControl p) (accepted (lines b) b (call-of.TakeControl p))
+  pub take-good : isAccepted (refusal (lines b) b (call-of.Of p act-of.TakeControl)) ≡ true → Good b (call-of.Of p act-of.TakeControl) (accepted (lines b) b (call-of.Of p act-of.TakeControl))
   take-good ok = let r = known b p (cond (inStandby (here b (p .0) .control)) ruling.Accepted ruling.Role) ok in
       let h = standby-busy (here b (p .0) .control) (if-so (inStandby (here b (p .0) .control)) ruling.Accepted ruling.Role refl (r .1) .0) in
-      controlled-good (call-of.TakeControl p) Active refl (r .0) (h .0) (standing-by (h .1))
+      controlled-good (call-of.Of p act-of.TakeControl) Active refl (r .0) (h .0) (standing-by (h .1))
 
-  pub standby-good : isAccepted (refusal (lines b) b (call-of.GoToStandby p)) ≡ true → Good b (call-of.GoToStandby p) (accepted (lines b) b (call-of.GoToStandby p))
+  pub standby-good : isAccepted (refusal (lines b) b (call-of.Of p act-of.GoToStandby)) ≡ true → Good b (call-of.Of p act-of.GoToStandby) (accepted (lines b) b (call-of.Of p act-of.GoToStandby))
   standby-good ok = let r = known b p (standbyRefusal (isActive (here b (p .0))) (sendsCommand (p .0) (b .standing))) ok in
       let a = if-so (isActive (here b (p .0))) (cond (sendsCommand (p .0) (b .standing)) ruling.Standing ruling.Accepted) ruling.Role refl (r .1) in
       let f = if-not (sendsCommand (p .0) (b .standing)) ruling.Accepted ruling.Standing refl (a .1) .0 in
-      controlled-good (call-of.GoToStandby p) Standby refl (r .0) (active-busy (here b (p .0)) (a .0)) f
+      controlled-good (call-of.Of p act-of.GoToStandby) Standby refl (r .0) (active-busy (here b (p .0)) (a .0)) f
 
   -- reset of a party that is not active
   reset-off : p .0 < b .count → isActive (here b (p .0)) ≡ false
-      → Good b (call-of.Reset p) (touch (atnOf b) b (p .0) (quiet (heldBytes (here b (p .0))) (b .standing) (withAcceptor (resetAcceptor (lines b)) (wiped (here b (p .0))))))
-  reset-off l na = kept-good b (call-of.Reset p) I (p .0) l (say ev.None 0 false (heldBytes (here b (p .0)))) new
+      → Good b (call-of.Of p act-of.Reset) (touch (atnOf b) b (p .0) (quiet (heldBytes (here b (p .0))) (b .standing) (withAcceptor (resetAcceptor (lines b)) (wiped (here b (p .0))))))
+  reset-off l na = kept-good b (call-of.Of p act-of.Reset) I (p .0) l (say ev.None 0 false (heldBytes (here b (p .0)))) new
       (record {
         name = refl;
         act = sym na;
@@ -175,11 +176,11 @@ module _ (b : Bus) (I : Inv b) (p : Place) where
           split true true a f g e = f refl refl
           split true false a f g e = g e
 
-  pub reset-good : isAccepted (refusal (lines b) b (call-of.Reset p)) ≡ true → Good b (call-of.Reset p) (accepted (lines b) b (call-of.Reset p))
+  pub reset-good : isAccepted (refusal (lines b) b (call-of.Of p act-of.Reset)) ≡ true → Good b (call-of.Of p act-of.Reset) (accepted (lines b) b (call-of.Of p act-of.Reset))
   reset-good ok = let r = known b p (cond (sendsCommand (p .0) (b .standing)) ruling.Standing ruling.Accepted) ok in
       let f = if-not (sendsCommand (p .0) (b .standing)) ruling.Accepted ruling.Standing refl (r .1) .0 in
-      cond-elim (λ (e : Effect). Good b (call-of.Reset p) (follow (atnOf b) b (p .0) e)) (isActive (here b (p .0)))
-      (λ e. alarm-good b (call-of.Reset p) I (heldBytes (here b (p .0))) (set (b .parties) (p .0) new) (set-len b I (p .0) new)
+      cond-elim (λ (e : Effect). Good b (call-of.Of p act-of.Reset) (follow (atnOf b) b (p .0) e)) (isActive (here b (p .0)))
+      (λ e. alarm-good b (call-of.Of p act-of.Reset) I (heldBytes (here b (p .0))) (set (b .parties) (p .0) new) (set-len b I (p .0) new)
       (raw-set b I (p .0) (r .0) new (quietly (active-busy (here b (p .0)) e) f) refl (λ x. no (cc)) (λ x. no (cc)) (λ x. no (cc)))
       (let k = set-held b I (p .0) (r .0) new in omega arith))
       (λ e. reset-off (r .0) e)
@@ -235,10 +236,10 @@ module _ (b : Bus) (I : Inv b) (i : ℕ) (l : i < b .count) where
       let k = total-split (b .count) heldBytes clearDrops cleared (b .parties) cleared-held in
       let e = ap (λ (w : ℕ → Party). heldBytes (w i)) cleared-at in omega arith
 
-pub clear-good : (b : Bus) → Inv b → (p : Place) → isAccepted (refusal (lines b) b (call-of.InterfaceClear p)) ≡ true → Good b (call-of.InterfaceClear p) (accepted (lines b) b (call-of.InterfaceClear p))
+pub clear-good : (b : Bus) → Inv b → (p : Place) → isAccepted (refusal (lines b) b (call-of.Of p act-of.InterfaceClear)) ≡ true → Good b (call-of.Of p act-of.InterfaceClear) (accepted (lines b) b (call-of.Of p act-of.InterfaceClear))
 unfolding chief all-cleared
 clear-good b I p ok = let r = known b p (cond (eqb (p .0) (b .system .0)) ruling.Accepted ruling.Role) ok in
-    alarm-good b (call-of.InterfaceClear p) I (total (b .count) clearDrops (b .parties) + heldBytes (cleared (here b (p .0)))) (set (all-cleared b I (p .0) (r .0)) (p .0) (chief b I (p .0) (r .0)))
+    alarm-good b (call-of.Of p act-of.InterfaceClear) I (total (b .count) clearDrops (b .parties) + heldBytes (cleared (here b (p .0)))) (set (all-cleared b I (p .0) (r .0)) (p .0) (chief b I (p .0) (r .0)))
     (length-set (all-cleared b I (p .0) (r .0)) (p .0) (chief b I (p .0) (r .0)) ∙ cleared-len b I (p .0) (r .0))
     (clear-raw b I (p .0) (r .0)) (clear-held b I (p .0) (r .0))
 
@@ -279,7 +280,7 @@ report-good b I c s d k w = subst (λ (ps : List Party). Good b c (settle (atnOf
     shape true e = breaks put end refl (deserted-stands t (b .parties) (b .standing) e) refl
 
 -- lines and drivers
-pub lines-good : (b : Bus) → Inv b → Good b call-of.Lines (touch (atnOf b) b 0 (tell (lines b) (b .standing) (here b 0)))
+pub lines-good : (b : Bus) → Inv b → Good b call-of.Lines (touch (atnOf b) b 0 (tell (viewAt (place 0) (lines b) b)))
 lines-good b I = report-good b I call-of.Lines (say ev.Lines (linesByte (lines b)) false 0) refl refl refl
 
 pub drivers-good : (b : Bus) → Inv b → Good b call-of.Drivers (touch (atnOf b) b 0 (quiet 0 (b .standing) (here b 0)))

@@ -13,6 +13,7 @@ use Rattle.role.proofs.Logic.{cond-elim}
 use Rattle.bus.specs.Types.{Place, Bus, Answer, Call, Standing, Effect}
 use Rattle.bus.specs.Types.ruling
 use Rattle.bus.specs.Types.call-of
+use Rattle.bus.specs.Types.act-of
 use Rattle.effect.specs.Words.{isAccepted}
 use Rattle.bus.specs.Record.{here, lines}
 use Rattle.effect.specs.Stands.{stands}
@@ -30,27 +31,27 @@ use Rattle.bus.proofs.ControlCalls.{take-good, standby-good, reset-good
 use Rattle.bus.proofs.AcceptorStep.{accept-good}
 use Rattle.bus.proofs.SourceStep.{source-good}
 
-step-good : (b : Bus) → Inv b → (p : Place) → isAccepted (refusal (lines b) b (call-of.Step p)) ≡ true → Good b (call-of.Step p) (m.accepted (lines b) b (call-of.Step p))
+step-good : (b : Bus) → Inv b → (p : Place) → isAccepted (refusal (lines b) b (call-of.Of p act-of.Step)) ≡ true → Good b (call-of.Of p act-of.Step) (m.accepted (lines b) b (call-of.Of p act-of.Step))
 step-good b I p ok = let l = known b p ruling.Accepted ok .0 in
-    cond-elim (λ (e : Effect). Good b (call-of.Step p) (follow (atnOf b) b (p .0) e)) (isSource (atnOf b) (here b (p .0)))
+    cond-elim (λ (e : Effect). Good b (call-of.Of p act-of.Step) (follow (atnOf b) b (p .0) e)) (isSource (atnOf b) (here b (p .0)))
     (λ so. source-good b I p l so (here b (p .0) .source) refl)
     (λ ns. accept-good b I p l ns (here b (p .0) .acceptor) refl)
 
 accepted-good : (b : Bus) → Inv b → (c : Call) → isAccepted (refusal (lines b) b c) ≡ true → Good b c (m.accepted (lines b) b c)
-accepted-good b I (call-of.Step p) = step-good b I p
-accepted-good b I (call-of.Write p v e) = write-good b I p v e
-accepted-good b I (call-of.Read p) = read-good b I p
-accepted-good b I (call-of.PollRegister p v) = poll-good b I p v
-accepted-good b I (call-of.ListenOnly p on) = listen-good b I p on
-accepted-good b I (call-of.TalkOnly p on) = talk-good b I p on
-accepted-good b I (call-of.TakeControl p) = take-good b I p
-accepted-good b I (call-of.GoToStandby p) = standby-good b I p
-accepted-good b I (call-of.InterfaceClear p) = clear-good b I p
-accepted-good b I (call-of.Reset p) = reset-good b I p
-accepted-good b I (call-of.Drop p) = drop-good b I p
+accepted-good b I (call-of.Of p act-of.Step) = step-good b I p
+accepted-good b I (call-of.Of p (act-of.Write v e)) = write-good b I p v e
+accepted-good b I (call-of.Of p act-of.Read) = read-good b I p
+accepted-good b I (call-of.Of p (act-of.PollRegister v)) = poll-good b I p v
+accepted-good b I (call-of.Of p (act-of.ListenOnly on)) = listen-good b I p on
+accepted-good b I (call-of.Of p (act-of.TalkOnly on)) = talk-good b I p on
+accepted-good b I (call-of.Of p act-of.TakeControl) = take-good b I p
+accepted-good b I (call-of.Of p act-of.GoToStandby) = standby-good b I p
+accepted-good b I (call-of.Of p act-of.InterfaceClear) = clear-good b I p
+accepted-good b I (call-of.Of p act-of.Reset) = reset-good b I p
+accepted-good b I (call-of.Of p act-of.Drop) = drop-good b I p
+accepted-good b I (call-of.Of p (act-of.SecondRequest on)) = request-good b I p on
 accepted-good b I call-of.Lines = λ _. lines-good b I
 accepted-good b I call-of.Drivers = λ _. drivers-good b I
-accepted-good b I (call-of.SecondRequest p on) = request-good b I p on
 
 pub call-good : (b : Bus) → Inv b → (c : Call) → Good b c (m.call b c)
 call-good b I c = ruled b c I (refusal (lines b) b c) (m.accepted (lines b) b c) (accepted-good b I c)

@@ -15,6 +15,7 @@ use Rattle.bus.specs.Types.{Place, Party, Source, Strs, Aids, Anrs, Acrs
 use Rattle.bus.specs.Types.ruling
 use Rattle.bus.specs.Types.ev
 use Rattle.bus.specs.Types.call-of
+use Rattle.bus.specs.Types.act-of
 use Rattle.effect.specs.Words.{isAccepted}
 use Rattle.bus.specs.Record.{here}
 use Rattle.effect.specs.Stands.{stands}
@@ -36,7 +37,7 @@ ruled b c I r a f = cond-elim (Good b c) (isAccepted r) f (λ e. refused b c r I
 
 -- a call that only party i can have made a step by
 abbrev pub Caller : Call → ℕ → Type 0
-Caller c i = (j : ℕ) → c ≡ call-of.Step (place j) → j ≡ i
+Caller c i = (j : ℕ) → c ≡ call-of.Of (place j) act-of.Step → j ≡ i
 
 -- Delivery sees no change: role, control and acceptor are as they were, and so is being in STRS.
 pub record Plain (p q : Party) : Type 0 where
@@ -127,8 +128,8 @@ pub plain-source : (p q : Party) (s : Source) → Plain p q → (s ≡ Strs → 
 plain-source p q s H f g = record { role = H .role; control = H .control; acceptor = H .acceptor; input = H .input; strs = λ e. absurd (f e); stst = λ e. absurd (g e) }
 
 module _ (b : Bus) (I : Inv b) (p : Place) (l : p .0 < b .count) where
-  pub step-caller : Caller (call-of.Step p) (p .0)
+  pub step-caller : Caller (call-of.Of p act-of.Step) (p .0)
   step-caller j e = cc
 
-  pub stay-good : Good b (call-of.Step p) (touch (atnOf b) b (p .0) (stay (b .standing) (here b (p .0))))
-  stay-good = plain-good b (call-of.Step p) I (p .0) l (say ev.None 0 false 0) (here b (p .0)) (plain-same (here b (p .0))) step-caller refl refl refl refl
+  pub stay-good : Good b (call-of.Of p act-of.Step) (touch (atnOf b) b (p .0) (stay (b .standing) (here b (p .0))))
+  stay-good = plain-good b (call-of.Of p act-of.Step) I (p .0) l (say ev.None 0 false 0) (here b (p .0)) (plain-same (here b (p .0))) step-caller refl refl refl refl

@@ -20,6 +20,7 @@ use Rattle.parties.proofs.Places.{upd, at-set, total-set, first-found}
 use Rattle.bus.specs.Types.{Place, Party, Role, Idle, Active, Sgns, At, Command, Nothing, Byte, Bus, After}
 use Rattle.bus.specs.Types.ev
 use Rattle.bus.specs.Types.call-of
+use Rattle.bus.specs.Types.act-of
 use Rattle.bus.specs.Record.{here, lines}
 use Rattle.effect.specs.Effects.{say}
 use Rattle.party.specs.Hearing.{heardBy}
@@ -99,7 +100,7 @@ module _ (b : Bus) (I : Inv b) (p : Place) (l : p .0 < b .count) (v : ℕ) (e : 
         let k = set-held b I (p .0) l old in
         let g = ap heldBytes (getD-set-other (b .parties) (p .0) j old idle other) in omega arith
 
-    passed-good : (z : After) → Good b (call-of.Step p) (pass b (p .0) (record { said = say ev.Ended v e 0; after = z; party = heard; standing = Nothing }) j)
+    passed-good : (z : After) → Good b (call-of.Of p act-of.Step) (pass b (p .0) (record { said = say ev.Ended v e 0; after = z; party = heard; standing = Nothing }) j)
     unfolding old new heard
     passed-good z = pass-good b I p Command (heldBytes (here b (p .0)) + heldBytes (here b j)) v e (set (set (b .parties) (p .0) old) j new)
         (length-set (set (b .parties) (p .0) old) j new ∙ set-len b I (p .0) old)
@@ -107,7 +108,7 @@ module _ (b : Bus) (I : Inv b) (p : Place) (l : p .0 < b .count) (v : ℕ) (e : 
         es nd dropped
 
   pub pass-to : (z : After) (j : Place) → otherTalker (b .count) (p .0) (b .parties) ≡ At j
-      → Good b (call-of.Step p) (pass b (p .0) (record { said = say ev.Ended v e 0; after = z; party = withSource Sgns (heardBy v (here b (p .0))); standing = Nothing }) (j .0))
+      → Good b (call-of.Of p act-of.Step) (pass b (p .0) (record { said = say ev.Ended v e 0; after = z; party = withSource Sgns (heardBy v (here b (p .0))); standing = Nothing }) (j .0))
   unfolding heard
   pass-to z j h = let r = first-found 0 (b .count) (λ x. x .role .talk) (set (b .parties) (p .0) idle) j h in
       let k : j .0 ≡ r .0 = omega (arith, r .1 .0) in passed-good (j .0) (rw k (r .1 .1)) z

@@ -20,6 +20,7 @@ use Rattle.bus.specs.Types.{Place, Party, Source, Sids, Sgns, Sdys, Strs
 use Rattle.bus.specs.Types.ev
 use Rattle.bus.specs.Types.after
 use Rattle.bus.specs.Types.call-of
+use Rattle.bus.specs.Types.act-of
 use Rattle.bus.specs.Record.{here, lines}
 use Rattle.effect.specs.Stands.{ofCommand}
 use Rattle.effect.specs.Effects.{say, does, stay, move}
@@ -54,7 +55,7 @@ atn-unpolled t p e = rw e
 
 module _ (b : Bus) (I : Inv b) (p : Place) (l : p .0 < b .count) (so : isSource (atnOf b) (here b (p .0)) ≡ true) where
   G : Effect → Type 0
-  G e = Good b (call-of.Step p) (follow (atnOf b) b (p .0) e)
+  G e = Good b (call-of.Of p act-of.Step) (follow (atnOf b) b (p .0) e)
 
   kind : Kind
   kind = kindOf (isActive (here b (p .0))) (isPolled (atnOf b) (here b (p .0)))
@@ -84,14 +85,14 @@ module _ (b : Bus) (I : Inv b) (p : Place) (l : p .0 < b .count) (so : isSource 
   -- a source that is not in STRS, and does not come to it, moves
   moved : (s : Source) → (s ≡ Strs → ⊥) → (here b (p .0) .source ≡ Strs → ⊥) → G (move (b .standing) (withSource s (here b (p .0))))
   unfolding G
-  moved s n m = plain-good b (call-of.Step p) I (p .0) l (say ev.Moved 0 false 0) (withSource s (here b (p .0))) (plain-source (here b (p .0)) (here b (p .0)) s (plain-same (here b (p .0))) n m) (step-caller b I p l) refl refl refl refl
+  moved s n m = plain-good b (call-of.Of p act-of.Step) I (p .0) l (say ev.Moved 0 false 0) (withSource s (here b (p .0))) (plain-source (here b (p .0)) (here b (p .0)) s (plain-same (here b (p .0))) n m) (step-caller b I p l) refl refl refl refl
 
   module _ (sd : here b (p .0) .source ≡ Sdys) where
     put-with : (x : Event) (new : Party) (k : Kind) (v : ℕ) (y : Bool) → isPut x ≡ true → isEnd x ≡ false → isTake x ≡ false
         → new .role ≡ here b (p .0) .role → new .control ≡ here b (p .0) .control → new .acceptor ≡ here b (p .0) .acceptor → new .input ≡ here b (p .0) .input → new .source ≡ Strs
         → Fit (atnOf b) new k y → lines b .nrfd ≡ false
         → heldBytes (here b (p .0)) ≡ one (isHostPut x) + heldBytes new
-        → Good b (call-of.Step p) (touch (atnOf b) b (p .0) (does (say x v y 0) new (Byte p k v y)))
+        → Good b (call-of.Of p act-of.Step) (touch (atnOf b) b (p .0) (does (say x v y 0) new (Byte p k v y)))
     put-with x new k v y ip ie it er ec eb ei es F nr w = put-good b I p l x new k v y ip ie it none (rw ec) eb (rw (ec, er) so) w
         (put-pre (b .count) (atnOf b) (here b) (subst (λ (st : Standing). Pre (b .count) (atnOf b) (here b) st) none (I .pre)) (p .0) l new k v y er ec eb ei es F (some-none (b .count) drivesNrfd (b .parties) refl (I .pre .tail) nr))
       where
@@ -117,7 +118,7 @@ module _ (b : Bus) (I : Inv b) (p : Place) (l : p .0 < b .count) (so : isSource 
 
     noacc-good : (k : Kind) (v : ℕ) (e : Bool) → G (noacc k v e (b .standing) (here b (p .0)))
     unfolding G
-    noacc-good k v e = plain-good b (call-of.Step p) I (p .0) l (say ev.Noacc v (endOf k e) 0) (here b (p .0)) (plain-same (here b (p .0))) (step-caller b I p l) refl refl refl refl
+    noacc-good k v e = plain-good b (call-of.Of p act-of.Step) I (p .0) l (say ev.Noacc v (endOf k e) 0) (here b (p .0)) (plain-same (here b (p .0))) (step-caller b I p l) refl refl refl refl
 
     ready-good : (o : Slot) → offer (isPolled (atnOf b) (here b (p .0))) (here b (p .0)) ≡ o → G (ready o kind (lines b) (b .standing) p (here b (p .0)))
     ready-good Empty eo = moved Sgns (λ e. no (cc)) (λ e. no (cc))
@@ -134,12 +135,12 @@ module _ (b : Bus) (I : Inv b) (p : Place) (l : p .0 < b .count) (so : isSource 
 
     over-good : (q : Party) (k : Kind) (v : ℕ) (e : Bool) → b .standing ≡ Byte p k v e → q .role ≡ look (b .standing) (p .0) (here b (p .0)) → q .control ≡ here b (p .0) .control
         → q .acceptor ≡ here b (p .0) .acceptor → q .input ≡ here b (p .0) .input → q .held ≡ here b (p .0) .held → q .source ≡ Sgns
-        → Good b (call-of.Step p) (touch (atnOf b) b (p .0) (does (say ev.Ended v e 0) q Nothing))
+        → Good b (call-of.Of p act-of.Step) (touch (atnOf b) b (p .0) (does (say ev.Ended v e 0) q Nothing))
     over-good q k v e es er ec eb ei eh eo = end-good b I p l q k v e es nd (rw ec) eb eh
         (end-pre (b .count) (atnOf b) (here b) (b .standing) (I .pre) (p .0) l mine q er ec eb ei eo (none-ready b I nd))
 
     -- data and status bytes
-    plain-end : (k : Kind) (v : ℕ) (e : Bool) → ofCommand k ≡ false → b .standing ≡ Byte p k v e → Good b (call-of.Step p) (touch (atnOf b) b (p .0) (does (say ev.Ended v e 0) (withSource Sgns (here b (p .0))) Nothing))
+    plain-end : (k : Kind) (v : ℕ) (e : Bool) → ofCommand k ≡ false → b .standing ≡ Byte p k v e → Good b (call-of.Of p act-of.Step) (touch (atnOf b) b (p .0) (does (say ev.Ended v e 0) (withSource Sgns (here b (p .0))) Nothing))
     plain-end k v e n es = over-good (withSource Sgns (here b (p .0))) k v e es (sym (look-idle (b .standing) (rw es n) (p .0) (here b (p .0)))) refl refl refl refl refl
 
     command-end : (v : ℕ) (e : Bool) → b .standing ≡ Byte p Command v e → G (ended talker (Byte p Command v e) (here b (p .0)))
@@ -152,7 +153,7 @@ module _ (b : Bus) (I : Inv b) (p : Place) (l : p .0 < b .count) (so : isSource 
         own : look (b .standing) (p .0) (here b (p .0)) ≡ hear (meaning v) (here b (p .0) .role)
         own = look-on (b .standing) (p .0) (here b (p .0)) (rw (mine, es)) ∙ rw es refl
 
-        just : (z : After) → Good b (call-of.Step p) (touch (atnOf b) b (p .0) (record { said = say ev.Ended v e 0; after = z; party = heard; standing = Nothing }))
+        just : (z : After) → Good b (call-of.Of p act-of.Step) (touch (atnOf b) b (p .0) (record { said = say ev.Ended v e 0; after = z; party = heard; standing = Nothing }))
         just z = over-good heard Command v e es (sym own) refl refl refl refl refl
 
         go : (x : Found) → talker ≡ x → (z : Bool) → passesControl (meaning v) ≡ z → G (record { said = say ev.Ended v e 0; after = passTo z x; party = heard; standing = Nothing })
@@ -162,7 +163,7 @@ module _ (b : Bus) (I : Inv b) (p : Place) (l : p .0 < b .count) (so : isSource 
 
     ended-good : (x : Standing) → b .standing ≡ x → G (ended talker x (here b (p .0)))
     unfolding G
-    ended-good Nothing es = subst (λ (x : Standing). Good b (call-of.Step p) (touch (atnOf b) b (p .0) (stay x (here b (p .0))))) es (stay-good b I p l)
+    ended-good Nothing es = subst (λ (x : Standing). Good b (call-of.Of p act-of.Step) (touch (atnOf b) b (p .0) (stay x (here b (p .0))))) es (stay-good b I p l)
     ended-good (Byte s Command v e) es = command-end v e (its-sender s Command v e es)
     ended-good (Byte s Data v e) es = plain-end Data v e refl (its-sender s Data v e es)
     ended-good (Byte s Status v e) es = plain-end Status v e refl (its-sender s Status v e es)
@@ -174,6 +175,6 @@ module _ (b : Bus) (I : Inv b) (p : Place) (l : p .0 < b .count) (so : isSource 
   by-state Strs ex = cond-elim G (lines b .ndac) (λ _. stays) (λ nd. ended-good ex nd (b .standing) refl)
 
   pub source-good : (x : Source) → here b (p .0) .source ≡ x
-      → Good b (call-of.Step p) (follow (atnOf b) b (p .0) (sourceStep x (offer (isPolled (atnOf b) (here b (p .0))) (here b (p .0))) (kindOf (isActive (here b (p .0))) (isPolled (atnOf b) (here b (p .0)))) (lines b) (otherTalker (b .count) (p .0) (b .parties)) (b .standing) p (here b (p .0))))
+      → Good b (call-of.Of p act-of.Step) (follow (atnOf b) b (p .0) (sourceStep x (offer (isPolled (atnOf b) (here b (p .0))) (here b (p .0))) (kindOf (isActive (here b (p .0))) (isPolled (atnOf b) (here b (p .0)))) (lines b) (otherTalker (b .count) (p .0) (b .parties)) (b .standing) p (here b (p .0))))
   unfolding G kind talker
   source-good x ex = by-state x ex

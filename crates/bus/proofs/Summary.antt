@@ -22,6 +22,7 @@ use Rattle.bus.specs.Types.{Place, Party, Acrs, Acds, Full, Kind, Event,
 use Rattle.bus.specs.Types.ruling
 use Rattle.bus.specs.Types.ev
 use Rattle.bus.specs.Types.call-of
+use Rattle.bus.specs.Types.act-of
 use Rattle.bus.specs.Record.{here, refuse}
 use Rattle.effect.specs.Stands.{stands}
 use Rattle.effect.specs.Effects.{say, does}
@@ -35,17 +36,17 @@ use Rattle.bus.proofs.Attention.{Raw, attend-inv, no-taker, attend-held
 -- What a call does to the standing byte: keeps it, puts one up, ends it, or breaks it off.
 pub data Shape (st : Standing) (c : Call) (a : Answer) : Type 0 where
   keeps : isPut (a .event) ≡ false → isEnd (a .event) ≡ false → a .broken ≡ 0 → a .bus .standing ≡ st → Shape st c a
-  puts : isPut (a .event) ≡ true → isEnd (a .event) ≡ false → a .broken ≡ 0 → st ≡ Nothing → (s : Place) (k : Kind) → c ≡ call-of.Step s → a .bus .standing ≡ Byte s k (a .byte) (a .end) → Shape st c a
-  ends : isPut (a .event) ≡ false → isEnd (a .event) ≡ true → a .broken ≡ 0 → (s : Place) (k : Kind) → c ≡ call-of.Step s → st ≡ Byte s k (a .byte) (a .end) → a .bus .standing ≡ Nothing → Shape st c a
+  puts : isPut (a .event) ≡ true → isEnd (a .event) ≡ false → a .broken ≡ 0 → st ≡ Nothing → (s : Place) (k : Kind) → c ≡ call-of.Of s act-of.Step → a .bus .standing ≡ Byte s k (a .byte) (a .end) → Shape st c a
+  ends : isPut (a .event) ≡ false → isEnd (a .event) ≡ true → a .broken ≡ 0 → (s : Place) (k : Kind) → c ≡ call-of.Of s act-of.Step → st ≡ Byte s k (a .byte) (a .end) → a .bus .standing ≡ Nothing → Shape st c a
   breaks : isPut (a .event) ≡ false → isEnd (a .event) ≡ false → a .broken ≡ 1 → stands st ≡ true → a .bus .standing ≡ Nothing → Shape st c a
 
 -- by call c party j leaves, if it is accepted
 abbrev pub Left : Call → ℕ → Type 0
-Left c j = (c ≡ call-of.ListenOnly (place j) 0) ⊎ (c ≡ call-of.Reset (place j))
+Left c j = (c ≡ call-of.Of (place j) (act-of.ListenOnly 0)) ⊎ (c ≡ call-of.Of (place j) act-of.Reset)
 
 -- party j steps and takes
 abbrev pub Taking : Call → Event → ℕ → Type 0
-Taking c x j = (c ≡ call-of.Step (place j)) × (isTake x ≡ true)
+Taking c x j = (c ≡ call-of.Of (place j) act-of.Step) × (isTake x ≡ true)
 
 -- What becomes of a party that was in ACRS while a byte stood.
 pub data Way (c : Call) (a : Answer) (j : ℕ) : Type 0 where
@@ -67,7 +68,7 @@ pub record Good (b : Bus) (c : Call) (a : Answer) : Type 0 where
   -- the account of host bytes
   pub bytes : wrote c (a .refusal) + held b ≡ one (isHostPut (a .event)) + a .dropped + held (a .bus)
   -- a taking event is a step from ACRS to ACDS that takes what stands
-  pub takes : isTake (a .event) ≡ true → (j : ℕ) → c ≡ call-of.Step (place j) → Takes b a j
+  pub takes : isTake (a .event) ≡ true → (j : ℕ) → c ≡ call-of.Of (place j) act-of.Step → Takes b a j
   -- and nothing else leads from ACRS to ACDS
   pub silent : (j : ℕ) → here b j .acceptor ≡ Acrs → here (a .bus) j .acceptor ≡ Acds → Taking c (a .event) j
   -- nobody comes to ACRS while a byte stands
@@ -134,7 +135,7 @@ pub record Word (b : Bus) (c : Call) (i : ℕ) (s : Said) (q : Party) : Type 0 w
   pub notPut : isPut (s .event) ≡ false
   pub notEnd : isEnd (s .event) ≡ false
   pub acct : wrote c ruling.Accepted + heldBytes (here b i) ≡ one (isHostPut (s .event)) + s .dropped + heldBytes q
-  pub caller : (j : ℕ) → c ≡ call-of.Step (place j) → j ≡ i
+  pub caller : (j : ℕ) → c ≡ call-of.Of (place j) act-of.Step → j ≡ i
   pub takes : isTake (s .event) ≡ true → (here b i .acceptor ≡ Acrs) × (q .acceptor ≡ Acds) × ((r : Place) × (k : Kind) × (b .standing ≡ Byte r k (s .byte) (s .end))) × (s .event ≡ ev.Took → q .input ≡ Full (s .byte) (s .end))
   pub silent : here b i .acceptor ≡ Acrs → q .acceptor ≡ Acds → Taking c (s .event) i
   pub rejoin : stands (b .standing) ≡ true → q .acceptor ≡ Acrs → here b i .acceptor ≡ Acrs
@@ -212,10 +213,10 @@ pub put-good : (b : Bus) → Inv b → (p : Place) → p .0 < b .count → (x : 
     → isActive q ≡ isActive (here b (p .0)) → q .acceptor ≡ here b (p .0) .acceptor → isSource (atnOf b) q ≡ true
     → heldBytes (here b (p .0)) ≡ one (isHostPut x) + heldBytes q
     → Pre (b .count) (atnOf b) (upd (here b) (p .0) q) (Byte p k v e)
-    → Good b (call-of.Step p) (touch (atnOf b) b (p .0) (does (say x v e 0) q (Byte p k v e)))
+    → Good b (call-of.Of p act-of.Step) (touch (atnOf b) b (p .0) (does (say x v e 0) q (Byte p k v e)))
 put-good b I p l x q k v e ip ie it st ac eq so w P = record {
   inv = touch-inv b I (p .0) l q (say x v e 0) (Byte p k v e) ac P;
-  shape = subst (λ (y : Bool). Shape (b .standing) (call-of.Step p) (settleAs t (not y) b (say x v e 0) qs (Byte p k v e))) (sym ok) (puts ip ie refl st p k refl refl);
+  shape = subst (λ (y : Bool). Shape (b .standing) (call-of.Of p act-of.Step) (settleAs t (not y) b (say x v e 0) qs (Byte p k v e))) (sym ok) (puts ip ie refl st p k refl refl);
   bytes = let h = changed-held b I (p .0) l q t in omega arith;
   takes = λ h. no (cc);
   silent = λ j f g. let z = acc j in no (cc);
@@ -249,7 +250,7 @@ pub end-good : (b : Bus) → Inv b → (p : Place) → p .0 < b .count → (q : 
     → b .standing ≡ Byte p k v e → some (b .count) drivesNdac (b .parties) ≡ false
     → isActive q ≡ isActive (here b (p .0)) → q .acceptor ≡ here b (p .0) .acceptor → q .held ≡ here b (p .0) .held
     → Pre (b .count) (atnOf b) (upd (here b) (p .0) q) Nothing
-    → Good b (call-of.Step p) (touch (atnOf b) b (p .0) (does (say ev.Ended v e 0) q Nothing))
+    → Good b (call-of.Of p act-of.Step) (touch (atnOf b) b (p .0) (does (say ev.Ended v e 0) q Nothing))
 end-good b I p l q k v e st nd ac eq eh P = record {
   inv = touch-inv b I (p .0) l q (say ev.Ended v e 0) Nothing ac P;
   shape = ends refl refl refl p k refl st refl;
@@ -295,7 +296,7 @@ alarm-good b c I d ps z R w = record {
 pub pass-good : (b : Bus) → Inv b → (p : Place) (k : Kind) (d v : ℕ) (e : Bool) (ps : List Party) → length ps ≡ 15 → Raw (b .count) (at ps)
     → b .standing ≡ Byte p k v e → some (b .count) drivesNdac (b .parties) ≡ false
     → held b ≡ d + total (b .count) heldBytes ps
-    → Good b (call-of.Step p) (attend b (say ev.Passed v e d) ps Nothing)
+    → Good b (call-of.Of p act-of.Step) (attend b (say ev.Passed v e d) ps Nothing)
 pass-good b I p k d v e ps z R st nd w = record {
   inv = attend-inv b s ps Nothing z (I .small) R;
   shape = ends refl refl refl p k refl st refl;

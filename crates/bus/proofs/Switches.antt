@@ -21,6 +21,7 @@ use Rattle.bus.specs.Types.{Place, Party, Strs, Acceptor, Aids, Anrs, Ac
 use Rattle.bus.specs.Types.ruling
 use Rattle.bus.specs.Types.ev
 use Rattle.bus.specs.Types.call-of
+use Rattle.bus.specs.Types.act-of
 use Rattle.effect.specs.Words.{isAccepted}
 use Rattle.bus.specs.Record.{here, lines}
 use Rattle.effect.specs.Stands.{stands}
@@ -70,7 +71,7 @@ module _ (b : Bus) (I : Inv b) (p : Place) where
 
   module _ (l : p .0 < b .count) where
     -- a switch that leaves the acceptor says nothing, and moves nobody
-    flag-word : (c : Call) (t o : Bool) → ((j : ℕ) → c ≡ call-of.Step (place j) → j ≡ p .0) → wrote c ruling.Accepted ≡ 0 → Word b c (p .0) (say ev.None 0 false 0) (withRole (withFlags t o (here b (p .0) .role)) (here b (p .0)))
+    flag-word : (c : Call) (t o : Bool) → ((j : ℕ) → c ≡ call-of.Of (place j) act-of.Step → j ≡ p .0) → wrote c ruling.Accepted ≡ 0 → Word b c (p .0) (say ev.None 0 false 0) (withRole (withFlags t o (here b (p .0) .role)) (here b (p .0)))
     flag-word c t o k w = record {
       notPut = refl;
       notEnd = refl;
@@ -85,8 +86,8 @@ module _ (b : Bus) (I : Inv b) (p : Place) where
     -- listen switched, the acceptor as it was: under ATN, or where listen was on already
     listen-flag : (on : ℕ) → (isOn on ≡ true → here b (p .0) .role .talk ≡ false)
         → (atnOf b ≡ false → isOn on ≡ false → ⊥) → (atnOf b ≡ false → here b (p .0) .role .listen ≡ true)
-        → Good b (call-of.ListenOnly p on) (touch (atnOf b) b (p .0) (does (say ev.None 0 false 0) (withRole (withFlags (here b (p .0) .role .talk) (isOn on) (here b (p .0) .role)) (here b (p .0))) (b .standing)))
-    listen-flag on nt no-off was = kept-good b (call-of.ListenOnly p on) I (p .0) l (say ev.None 0 false 0) (withRole (withFlags (here b (p .0) .role .talk) (isOn on) (here b (p .0) .role)) (here b (p .0)))
+        → Good b (call-of.Of p (act-of.ListenOnly on)) (touch (atnOf b) b (p .0) (does (say ev.None 0 false 0) (withRole (withFlags (here b (p .0) .role .talk) (isOn on) (here b (p .0) .role)) (here b (p .0))) (b .standing)))
+    listen-flag on nt no-off was = kept-good b (call-of.Of p (act-of.ListenOnly on)) I (p .0) l (say ev.None 0 false 0) (withRole (withFlags (here b (p .0) .role .talk) (isOn on) (here b (p .0) .role)) (here b (p .0)))
         (record {
           name = refl;
           act = refl;
@@ -104,15 +105,15 @@ module _ (b : Bus) (I : Inv b) (p : Place) where
           polls = λ _ x. (x, λ y. y);
         })
         (flag-heard (here b (p .0) .role .talk) (isOn on) (λ x. x))
-        (flag-word (call-of.ListenOnly p on) (here b (p .0) .role .talk) (isOn on) (λ j x. no (cc)) refl)
+        (flag-word (call-of.Of p (act-of.ListenOnly on)) (here b (p .0) .role .talk) (isOn on) (λ j x. no (cc)) refl)
 
     -- with ATN false the acceptor goes to x, which is neither ready nor has taken
     listen-seat : (on : ℕ) (x : Acceptor) → (isOn on ≡ true → here b (p .0) .role .talk ≡ false) → atnOf b ≡ false
         → (stands (b .standing) ≡ true → x ≡ Anrs → ⊥) → (x ≡ Acrs → ⊥) → (x ≡ Acds → ⊥)
         → (isOn on ≡ false → x ≡ Aids) → (isOn on ≡ true → x ≡ Aids → ⊥)
-        → (here b (p .0) .acceptor ≡ Acrs → Left (call-of.ListenOnly p on) (p .0))
-        → Good b (call-of.ListenOnly p on) (touch (atnOf b) b (p .0) (does (say ev.None 0 false 0) (withRole (withFlags (here b (p .0) .role .talk) (isOn on) (here b (p .0) .role)) (withAcceptor x (here b (p .0)))) (b .standing)))
-    listen-seat on x nt e an ac ad off up lv = seated-good b (call-of.ListenOnly p on) I (p .0) l (say ev.None 0 false 0) (withRole (withFlags (here b (p .0) .role .talk) (isOn on) (here b (p .0) .role)) (withAcceptor x (here b (p .0))))
+        → (here b (p .0) .acceptor ≡ Acrs → Left (call-of.Of p (act-of.ListenOnly on)) (p .0))
+        → Good b (call-of.Of p (act-of.ListenOnly on)) (touch (atnOf b) b (p .0) (does (say ev.None 0 false 0) (withRole (withFlags (here b (p .0) .role .talk) (isOn on) (here b (p .0) .role)) (withAcceptor x (here b (p .0)))) (b .standing)))
+    listen-seat on x nt e an ac ad off up lv = seated-good b (call-of.Of p (act-of.ListenOnly on)) I (p .0) l (say ev.None 0 false 0) (withRole (withFlags (here b (p .0) .role .talk) (isOn on) (here b (p .0) .role)) (withAcceptor x (here b (p .0))))
         (record {
           inactive = inactive e;
           name = refl;
@@ -139,7 +140,7 @@ module _ (b : Bus) (I : Inv b) (p : Place) where
           leaves = λ h y. inr (inr (lv y));
         })
 
-  pub listen-good : (on : ℕ) → isAccepted (refusal (lines b) b (call-of.ListenOnly p on)) ≡ true → Good b (call-of.ListenOnly p on) (accepted (lines b) b (call-of.ListenOnly p on))
+  pub listen-good : (on : ℕ) → isAccepted (refusal (lines b) b (call-of.Of p (act-of.ListenOnly on))) ≡ true → Good b (call-of.Of p (act-of.ListenOnly on)) (accepted (lines b) b (call-of.Of p (act-of.ListenOnly on)))
   listen-good on ok = cond-elim G (atnOf b)
       (λ t. listen-flag l on nt (λ f. no (cc)) (λ f. no (cc)))
       (λ t. cond-elim G (isOn on)
@@ -149,7 +150,7 @@ module _ (b : Bus) (I : Inv b) (p : Place) where
       (λ o. listen-seat l on Aids nt t (λ s x. no (cc)) (λ x. no (cc)) (λ x. no (cc)) (λ _. refl) (λ f. no (cc)) (λ _. inl (rw (off-is-0 on (sw .0) o)))))
     where
       G : Acceptor → Type 0
-      G x = Good b (call-of.ListenOnly p on) (touch (atnOf b) b (p .0) (does (say ev.None 0 false 0) (withRole (withFlags (here b (p .0) .role .talk) (isOn on) (here b (p .0) .role)) (withAcceptor x (here b (p .0)))) (b .standing)))
+      G x = Good b (call-of.Of p (act-of.ListenOnly on)) (touch (atnOf b) b (p .0) (does (say ev.None 0 false 0) (withRole (withFlags (here b (p .0) .role .talk) (isOn on) (here b (p .0) .role)) (withAcceptor x (here b (p .0)))) (b .standing)))
 
       kn : (p .0 < b .count) × (isAccepted (ofSwitch on (listenRefusal (isOn on) (here b (p .0) .role .talk))) ≡ true)
       kn = known b p (ofSwitch on (listenRefusal (isOn on) (here b (p .0) .role .talk))) ok
@@ -169,7 +170,7 @@ module _ (b : Bus) (I : Inv b) (p : Place) where
           go false y e f = no (cc)
 
   -- talk switched
-  talk-flag : (c : Call) (t : Bool) → p .0 < b .count → ((j : ℕ) → c ≡ call-of.Step (place j) → j ≡ p .0) → wrote c ruling.Accepted ≡ 0
+  talk-flag : (c : Call) (t : Bool) → p .0 < b .count → ((j : ℕ) → c ≡ call-of.Of (place j) act-of.Step → j ≡ p .0) → wrote c ruling.Accepted ≡ 0
       → Single (withFlags t (here b (p .0) .role .listen) (here b (p .0) .role))
       → (here b (p .0) .source ≡ Strs → isPolled (atnOf b) (withRole (withFlags t (here b (p .0) .role .listen) (here b (p .0) .role)) (here b (p .0))) ≡ true → isPolled (atnOf b) (here b (p .0)) ≡ true)
       → (here b (p .0) .source ≡ Strs → isSource (atnOf b) (withRole (withFlags t (here b (p .0) .role .listen) (here b (p .0) .role)) (here b (p .0))) ≡ true
@@ -196,7 +197,7 @@ module _ (b : Bus) (I : Inv b) (p : Place) where
       o
       (flag-word l c t (here b (p .0) .role .listen) k w)
 
-  talk-on : (c : Call) → p .0 < b .count → ((j : ℕ) → c ≡ call-of.Step (place j) → j ≡ p .0) → wrote c ruling.Accepted ≡ 0
+  talk-on : (c : Call) → p .0 < b .count → ((j : ℕ) → c ≡ call-of.Of (place j) act-of.Step → j ≡ p .0) → wrote c ruling.Accepted ≡ 0
       → here b (p .0) .role .listen ≡ false → atnOf b ≡ false → isFound (otherTalker (b .count) (p .0) (b .parties)) ≡ false
       → Good b c (touch (atnOf b) b (p .0) (does (say ev.None 0 false 0) (withRole (withFlags true (here b (p .0) .role .listen) (here b (p .0) .role)) (here b (p .0))) (b .standing)))
   talk-on c l k w nl e f = talk-flag c true l k w (λ x y. no (cc))
@@ -229,7 +230,7 @@ module _ (b : Bus) (I : Inv b) (p : Place) where
       unique : (i j : ℕ) → upd (here b) (p .0) new i .role .talk ≡ true → upd (here b) (p .0) new j .role .talk ≡ true → i ≡ j
       unique = upd-unique (here b) (p .0) new (λ x. x .role .talk) (roles .one) (λ h j g ne. no (solo j ne g))
 
-  talk-off : (c : Call) → p .0 < b .count → ((j : ℕ) → c ≡ call-of.Step (place j) → j ≡ p .0) → wrote c ruling.Accepted ≡ 0
+  talk-off : (c : Call) → p .0 < b .count → ((j : ℕ) → c ≡ call-of.Of (place j) act-of.Step → j ≡ p .0) → wrote c ruling.Accepted ≡ 0
       → Good b c (touch (atnOf b) b (p .0) (does (say ev.None 0 false 0) (withRole (withFlags false (here b (p .0) .role .listen) (here b (p .0) .role)) (here b (p .0))) (b .standing)))
   talk-off c l k w = talk-flag c false l k w (λ x. no (cc))
       (λ s x. absurd (unpolled (atnOf b) (here b (p .0) .role .poll) x))
@@ -248,11 +249,11 @@ module _ (b : Bus) (I : Inv b) (p : Place) where
       under : atnOf b ≡ true → isPolled (atnOf b) (here b (p .0)) ≡ true → ⊥
       under t e = let z : isPolled (atnOf b) (here b (p .0)) ≡ false = rw t in no (cc)
 
-  pub talk-good : (on : ℕ) → isAccepted (refusal (lines b) b (call-of.TalkOnly p on)) ≡ true → Good b (call-of.TalkOnly p on) (accepted (lines b) b (call-of.TalkOnly p on))
+  pub talk-good : (on : ℕ) → isAccepted (refusal (lines b) b (call-of.Of p (act-of.TalkOnly on))) ≡ true → Good b (call-of.Of p (act-of.TalkOnly on)) (accepted (lines b) b (call-of.Of p (act-of.TalkOnly on)))
   talk-good on ok = go (isOn on) refl
     where
       c : Call
-      c = call-of.TalkOnly p on
+      c = call-of.Of p (act-of.TalkOnly on)
 
       listen : Bool
       listen = here b (p .0) .role .listen

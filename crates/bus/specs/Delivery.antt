@@ -6,6 +6,7 @@ use mathlib.Core.Bool.{Bool, true, false, _&&_}
 use mathlib.Core.List.{List, [], _∷_}
 use mathlib.Core.Logic.{_⊎_}
 use Prim.Native.Nat.{ℕ, _+_, _<_}
+use lib.Dec.{eqb}
 use lib.ListN.{length, getD, take}
 use Rattle.party.specs.Parts.{one, heldBytes}
 use Rattle.parties.specs.Places.{place, total}
@@ -13,7 +14,8 @@ use Rattle.bus.specs.Types.{Place, Name, Active, Strs, Acrs, Acds, Full,
 use Rattle.bus.specs.Types.ruling
 use Rattle.bus.specs.Types.ev
 use Rattle.bus.specs.Types.call-of
-use Rattle.effect.specs.Words.{isAccepted}
+use Rattle.bus.specs.Types.act-of
+use Rattle.effect.specs.Words.{isAccepted, actNumber}
 use Rattle.bus.specs.Record.{here, refuse, buildExtended}
 use Rattle.effect.specs.Stands.{stands}
 use Rattle.bus.specs.Machine as m
@@ -53,20 +55,9 @@ abbrev pub isEnd : Event → Bool
 isEnd x = elim (deed x) [ puts-host ↦ false | puts-status ↦ false | takes ↦ false | ends ↦ true | neither ↦ false ]
 
 abbrev pub isWrite : Call → Bool
-isWrite (call-of.Step p) = false
-isWrite (call-of.Write p v e) = true
-isWrite (call-of.Read p) = false
-isWrite (call-of.PollRegister p v) = false
-isWrite (call-of.ListenOnly p on) = false
-isWrite (call-of.TalkOnly p on) = false
-isWrite (call-of.TakeControl p) = false
-isWrite (call-of.GoToStandby p) = false
-isWrite (call-of.InterfaceClear p) = false
-isWrite (call-of.Reset p) = false
-isWrite (call-of.Drop p) = false
+isWrite (call-of.Of p a) = eqb (actNumber a) 2
 isWrite call-of.Lines = false
 isWrite call-of.Drivers = false
-isWrite (call-of.SecondRequest p on) = false
 
 -- "Host bytes accepted are the accepted writes."
 abbrev pub wrote : Call → Refusal → ℕ
@@ -127,7 +118,7 @@ module _ (b : Bus) (cs : List Call) where
 
   -- "A party takes a byte by its step from ACRS to ACDS, with event took, heard, clear or trigger": party p takes by call k.
   abbrev pub TakesAt : ℕ → ℕ → Type 0
-  TakesAt p k = (k < length cs) × (moment k .call ≡ call-of.Step (place p)) × (isTake (answerAt k .event) ≡ true)
+  TakesAt p k = (k < length cs) × (moment k .call ≡ call-of.Of (place p) act-of.Step) × (isTake (answerAt k .event) ≡ true)
 
   -- "Ready means that its acceptor was in ACRS when the byte was put": party p, for what call i put up.
   abbrev pub ReadyAt : ℕ → ℕ → Type 0
@@ -135,7 +126,7 @@ module _ (b : Bus) (cs : List Call) where
 
   -- "an accepted listen-only off", "an accepted reset of it": by call k party p leaves.
   abbrev pub LeavesAt : ℕ → ℕ → Type 0
-  LeavesAt p k = (answerAt k .refusal ≡ ruling.Accepted) × ((moment k .call ≡ call-of.ListenOnly (place p) 0) ⊎ (moment k .call ≡ call-of.Reset (place p)))
+  LeavesAt p k = (answerAt k .refusal ≡ ruling.Accepted) × ((moment k .call ≡ call-of.Of (place p) (act-of.ListenOnly 0)) ⊎ (moment k .call ≡ call-of.Of (place p) act-of.Reset))
 
   -- "a party stayed if no accepted listen-only off and no accepted reset of it came while the byte stood": from its putting i to call e.
   abbrev pub StayedFrom : ℕ → ℕ → ℕ → Type 0

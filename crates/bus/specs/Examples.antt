@@ -9,6 +9,7 @@ use Rattle.bus.specs.Types.{Call}
 use Rattle.bus.specs.Types.ruling
 use Rattle.bus.specs.Types.ev
 use Rattle.bus.specs.Types.call-of
+use Rattle.bus.specs.Types.act-of
 use Rattle.bus.specs.Rows.{Report, Run, outcome, expected, ok, moved, says, loses, refused, step, write, read, listenOnly, talkOnly, clear, standby, run, notBuilt, sends}
 
 -- "P1 the script above": its records 2 to 8, and 9 to 12.
@@ -120,7 +121,7 @@ P6 =
     ∷ (step 1, moved)
     ∷ (step 1, says ev.Data 0x41 false)
     ∷ (step 2, says ev.Took 0x41 false)
-    ∷ (call-of.TakeControl (place 0), loses 0 1)
+    ∷ (call-of.Of (place 0) act-of.TakeControl, loses 0 1)
     ∷ (call-of.Lines, says ev.Lines 0xb0 false)
     ∷ [])
     ∷ []
@@ -173,7 +174,7 @@ P11 =
 abbrev poll : ℕ → ℕ → ℕ → Run
 poll register srq status =
     run (4 ∷ 5 ∷ []) (
-    (call-of.PollRegister (place 1) register, ok)
+    (call-of.Of (place 1) (act-of.PollRegister register), ok)
     ∷ (call-of.Lines, says ev.Lines srq false)
     ∷ (clear 0, ok)
     ∷ sends 0x18 (

@@ -6,6 +6,7 @@ use mathlib.Core.List.{List, [], _∷_, map}
 use Rattle.parties.specs.Places.{place}
 use Rattle.bus.specs.Types.{Masks, Counts, Call}
 use Rattle.bus.specs.Types.call-of
+use Rattle.bus.specs.Types.act-of
 use Rattle.bus.specs.Record.{build}
 use Rattle.bus.specs.Machine.{run}
 use Rattle.bus.specs.Drivers.{masks, counts}
@@ -58,14 +59,14 @@ cases =
     -- A bus that hangs: the byte has ended, nobody has read, and who is not ready for the next one holds NRFD and NDAC.
     ∷ record {
       addresses = 1 ∷ 2 ∷ 3 ∷ 4 ∷ [];
-      calls = offered 0 (step 1 ∷ step 2 ∷ step 3 ∷ step 1 ∷ step 2 ∷ step 3 ∷ step 0 ∷ step 1 ∷ step 2 ∷ step 3 ∷ call-of.Read (place 2) ∷ step 1 ∷ step 2 ∷ step 3 ∷ []);
+      calls = offered 0 (step 1 ∷ step 2 ∷ step 3 ∷ step 1 ∷ step 2 ∷ step 3 ∷ step 0 ∷ step 1 ∷ step 2 ∷ step 3 ∷ call-of.Of (place 2) act-of.Read ∷ step 1 ∷ step 2 ∷ step 3 ∷ []);
       masks = who 0 0 0b1010 0b1110 0 0;
       counts = number 0 0 2 3 0 0;
     }
     -- The system party takes charge, and two others ask for service.
     ∷ record {
       addresses = 1 ∷ 2 ∷ 3 ∷ 4 ∷ [];
-      calls = clear 0 ∷ call-of.PollRegister (place 1) 0x40 ∷ call-of.PollRegister (place 3) 0x41 ∷ [];
+      calls = clear 0 ∷ call-of.Of (place 1) (act-of.PollRegister 0x40) ∷ call-of.Of (place 3) (act-of.PollRegister 0x41) ∷ [];
       masks = who 0b0001 0 0b1110 0b1110 0 0b1010;
       counts = number 1 0 3 3 0 2;
     }

@@ -13,31 +13,35 @@
 -- Assumes nothing.
 use mathlib.Core.Bool.{cond}
 use mathlib.Core.List.{List, [], _∷_}
-use Prim.Native.Nat.{ℕ}
 use lib.Dec.{eqb}
-use Rattle.parties.specs.Places.{otherTalker, isFound}
+use Rattle.parties.specs.Places.{otherTalker}
 use Rattle.effect.specs.Words.{isAccepted}
-use Rattle.effect.specs.Stands.{sendsCommand}
 use Rattle.effect.specs.Calls.{placeOf}
 use Rattle.refusals.specs.Refusals.{isInside, judge}
 use Rattle.accepted.specs.Accepted.{effectOf}
-use Rattle.bus.specs.Types.{Lines, Bus, Answer, Call, Refusal}
+use Rattle.bus.specs.Types.{Place, Lines, Bus, Answer, Call, Refusal, View}
 use Rattle.bus.specs.Record.{here, lines, refuse}
 use Rattle.bus.specs.Following.{follow}
 
--- Which refusal a call meets, with the lines as it finds them.
-abbrev pub refusalAt : ℕ → Lines → Bus → Call → Refusal
-refusalAt i l b c = judge (isInside (b .count) i) (here b i) (l .atn) (isFound (otherTalker (b .count) i (b .parties))) (sendsCommand i (b .standing)) (eqb i (b .system .0)) c
+-- What a call of the party at place p sees of the bus, with the lines as it finds them.
+abbrev pub viewAt : Place → Lines → Bus → View
+viewAt p l b = record {
+  lines = l;
+  standing = b .standing;
+  place = p;
+  party = here b (p .0);
+  talker = otherTalker (b .count) (p .0) (b .parties);
+  inside = isInside (b .count) (p .0);
+  chief = eqb (p .0) (b .system .0);
+}
 
+-- Which refusal a call meets.
 abbrev pub refusal : Lines → Bus → Call → Refusal
-refusal l b c = refusalAt (placeOf c .0) l b c
+refusal l b c = judge (viewAt (placeOf c) l b) c
 
 -- If it meets none: its effect on its party, and what follows on that.
-abbrev pub acceptedAt : ℕ → Lines → Bus → Call → Answer
-acceptedAt i l b c = follow (l .atn) b i (effectOf l (otherTalker (b .count) i (b .parties)) (b .standing) (here b i) c)
-
 abbrev pub accepted : Lines → Bus → Call → Answer
-accepted l b c = acceptedAt (placeOf c .0) l b c
+accepted l b c = follow (l .atn) b (placeOf c .0) (effectOf (viewAt (placeOf c) l b) c)
 
 -- A refused call leaves the bus as it found it.
 abbrev pub judged : Refusal → Bus → Answer → Answer

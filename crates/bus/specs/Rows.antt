@@ -9,6 +9,7 @@ use Rattle.bus.specs.Types.{Name, Event, Bus, Answer, Call, Refusal}
 use Rattle.bus.specs.Types.ruling
 use Rattle.bus.specs.Types.ev
 use Rattle.bus.specs.Types.call-of
+use Rattle.bus.specs.Types.act-of
 use Rattle.bus.specs.Record.{buildExtended}
 use Rattle.bus.specs.Machine.{call}
 
@@ -58,28 +59,28 @@ refused r = record { refusal = r; event = ev.None; byte = 0; end = false; droppe
 
 -- The calls.
 abbrev pub step : ℕ → Call
-step p = call-of.Step (place p)
+step p = call-of.Of (place p) act-of.Step
 
 abbrev pub write : ℕ → ℕ → ℕ → Call
-write p v e = call-of.Write (place p) v e
+write p v e = call-of.Of (place p) (act-of.Write v e)
 
 abbrev pub read : ℕ → Call
-read p = call-of.Read (place p)
+read p = call-of.Of (place p) act-of.Read
 
 abbrev pub listenOnly : ℕ → ℕ → Call
-listenOnly p on = call-of.ListenOnly (place p) on
+listenOnly p on = call-of.Of (place p) (act-of.ListenOnly on)
 
 abbrev pub talkOnly : ℕ → ℕ → Call
-talkOnly p on = call-of.TalkOnly (place p) on
+talkOnly p on = call-of.Of (place p) (act-of.TalkOnly on)
 
 abbrev pub drop : ℕ → Call
-drop p = call-of.Drop (place p)
+drop p = call-of.Of (place p) act-of.Drop
 
 abbrev pub clear : ℕ → Call
-clear p = call-of.InterfaceClear (place p)
+clear p = call-of.Of (place p) act-of.InterfaceClear
 
 abbrev pub standby : ℕ → Call
-standby p = call-of.GoToStandby (place p)
+standby p = call-of.Of (place p) act-of.GoToStandby
 
 -- A run from an accepted build, with party 0 the system party: of parties by name, and of parties without secondaries.
 abbrev pub runOf : List Name → List (Call × Report) → Run

@@ -12,6 +12,7 @@ use Rattle.bus.specs.Types.{Name, Event, Call}
 use Rattle.bus.specs.Types.ruling
 use Rattle.bus.specs.Types.ev
 use Rattle.bus.specs.Types.call-of
+use Rattle.bus.specs.Types.act-of
 use Rattle.bus.specs.Rows.{Report, Run, outcome, expected, ok, moved, says, refused, step, write, listenOnly, talkOnly, clear, standby, runOf, notBuiltOf}
 
 abbrev at : ℕ → Name
@@ -116,9 +117,9 @@ S4 =
 -- A mark lost by a change of which party is active, and by a reset of that party: 2/12 was reset, and 2/13 still waits.
 abbrev pub S5 : List Run
 S5 =
-    rack (sends 0x42 ((standby 0, ok) ∷ (call-of.TakeControl (place 0), ok) ∷ sends 0x6c nobodyTalks))
-    ∷ rack (sends 0x42 ((call-of.Reset (place 1), ok) ∷ sends 0x6c nobodyTalks))
-    ∷ rack (sends 0x42 ((call-of.Reset (place 1), ok) ∷ sends 0x6d (talks 2 1)))
+    rack (sends 0x42 ((standby 0, ok) ∷ (call-of.Of (place 0) act-of.TakeControl, ok) ∷ sends 0x6c nobodyTalks))
+    ∷ rack (sends 0x42 ((call-of.Of (place 1) act-of.Reset, ok) ∷ sends 0x6c nobodyTalks))
+    ∷ rack (sends 0x42 ((call-of.Of (place 1) act-of.Reset, ok) ∷ sends 0x6d (talks 2 1)))
     ∷ []
 
 -- "Other talk addresses and UNT still clear talk", and the sender's own hearing counts: 4/7 in control addresses itself by 44 67.

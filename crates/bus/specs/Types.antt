@@ -30,7 +30,10 @@ pub use Rattle.bus.specs.declared.Answer.{Answer}
 pub use Rattle.bus.specs.declared.Drivers.{Drivers}
 pub use Rattle.effect.specs.declared.Call.{Call}
 pub use Rattle.effect.specs.declared.Call.the-variants as call-of
+pub use Rattle.effect.specs.declared.Act.{Act}
+pub use Rattle.effect.specs.declared.Act.the-variants as act-of
 pub use Rattle.effect.specs.declared.Said.{Said}
 pub use Rattle.effect.specs.declared.After.{After}
 pub use Rattle.effect.specs.declared.After.the-variants as after
 pub use Rattle.effect.specs.declared.Effect.{Effect}
+pub use Rattle.effect.specs.declared.View.{View}

@@ -6,7 +6,9 @@ use crate::Answer;
 use crate::Bus;
 use crate::Drivers;
 use accepted::effect_of;
+use effect::Act;
 use effect::Call;
+use effect::View;
 use parties::every::slot;
 use parties::sweeping::sweep;
 use party::Place;
@@ -24,16 +26,22 @@ impl Bus {
         let st = self.standing;
         let system = self.system;
         let s = sweep(ps, self.count).told(at, st.has_end());
-        let l = s.lines;
+        let lines = s.lines;
         let talker = s.talker;
-        let p = ps[at];
+        let party = ps[at];
         let inside = is_inside(i, self.count);
-        let sends = st.is_command_of(i);
-        let another = talker.is_found();
-        let chief = i.0 == system.0;
-        let r = judged(c, inside, p, l.atn, another, sends, chief);
+        let v = View {
+            lines,
+            standing: st,
+            place: i,
+            party,
+            talker,
+            inside,
+            chief: i.0 == system.0,
+        };
+        let r = judged(c, v);
         if r.is_accepted() {
-            self.follow(l.atn, i, effect_of(c, s, st, p))
+            self.follow(lines.atn, i, effect_of(c, v))
         } else {
             self.refuse(r)
         }
@@ -41,73 +49,73 @@ impl Bus {
 
     // Party p has its turn.
     pub fn step(self, p: Place) -> Answer
-        ensures { λ r. ⌜ r ≡ call self (Call.Step p) ⌝ }
+        ensures { λ r. ⌜ r ≡ call self (Call.Of p Act.Step) ⌝ }
     {
-        self.call(Call::Step(p))
+        self.call(Call::Of(p, Act::Step))
     }
 
     // A byte with its END (0 or 1) to be sent.
     pub fn write(self, p: Place, byte: u8, end: u8) -> Answer
-        ensures { λ r. ⌜ r ≡ call self (Call.Write p byte end) ⌝ }
+        ensures { λ r. ⌜ r ≡ call self (Call.Of p (Act.Write byte end)) ⌝ }
     {
-        self.call(Call::Write(p, byte, end))
+        self.call(Call::Of(p, Act::Write(byte, end)))
     }
 
     // The byte that was taken.
     pub fn read(self, p: Place) -> Answer
-        ensures { λ r. ⌜ r ≡ call self (Call.Read p) ⌝ }
+        ensures { λ r. ⌜ r ≡ call self (Call.Of p Act.Read) ⌝ }
     {
-        self.call(Call::Read(p))
+        self.call(Call::Of(p, Act::Read))
     }
 
     // The poll register; bit 64 asks for service.
     pub fn poll_register(self, p: Place, value: u8) -> Answer
-        ensures { λ r. ⌜ r ≡ call self (Call.PollRegister p value) ⌝ }
+        ensures { λ r. ⌜ r ≡ call self (Call.Of p (Act.PollRegister value)) ⌝ }
     {
-        self.call(Call::PollRegister(p, value))
+        self.call(Call::Of(p, Act::PollRegister(value)))
     }
 
     pub fn listen_only(self, p: Place, on: u8) -> Answer
-        ensures { λ r. ⌜ r ≡ call self (Call.ListenOnly p on) ⌝ }
+        ensures { λ r. ⌜ r ≡ call self (Call.Of p (Act.ListenOnly on)) ⌝ }
     {
-        self.call(Call::ListenOnly(p, on))
+        self.call(Call::Of(p, Act::ListenOnly(on)))
     }
 
     pub fn talk_only(self, p: Place, on: u8) -> Answer
-        ensures { λ r. ⌜ r ≡ call self (Call.TalkOnly p on) ⌝ }
+        ensures { λ r. ⌜ r ≡ call self (Call.Of p (Act.TalkOnly on)) ⌝ }
     {
-        self.call(Call::TalkOnly(p, on))
+        self.call(Call::Of(p, Act::TalkOnly(on)))
     }
 
     pub fn take_control(self, p: Place) -> Answer
-        ensures { λ r. ⌜ r ≡ call self (Call.TakeControl p) ⌝ }
+        ensures { λ r. ⌜ r ≡ call self (Call.Of p Act.TakeControl) ⌝ }
     {
-        self.call(Call::TakeControl(p))
+        self.call(Call::Of(p, Act::TakeControl))
     }
 
     pub fn go_to_standby(self, p: Place) -> Answer
-        ensures { λ r. ⌜ r ≡ call self (Call.GoToStandby p) ⌝ }
+        ensures { λ r. ⌜ r ≡ call self (Call.Of p Act.GoToStandby) ⌝ }
     {
-        self.call(Call::GoToStandby(p))
+        self.call(Call::Of(p, Act::GoToStandby))
     }
 
     pub fn interface_clear(self, p: Place) -> Answer
-        ensures { λ r. ⌜ r ≡ call self (Call.InterfaceClear p) ⌝ }
+        ensures { λ r. ⌜ r ≡ call self (Call.Of p Act.InterfaceClear) ⌝ }
     {
-        self.call(Call::InterfaceClear(p))
+        self.call(Call::Of(p, Act::InterfaceClear))
     }
 
     pub fn reset(self, p: Place) -> Answer
-        ensures { λ r. ⌜ r ≡ call self (Call.Reset p) ⌝ }
+        ensures { λ r. ⌜ r ≡ call self (Call.Of p Act.Reset) ⌝ }
     {
-        self.call(Call::Reset(p))
+        self.call(Call::Of(p, Act::Reset))
     }
 
     // The held byte goes.
     pub fn drop_held(self, p: Place) -> Answer
-        ensures { λ r. ⌜ r ≡ call self (Call.Drop p) ⌝ }
+        ensures { λ r. ⌜ r ≡ call self (Call.Of p Act.Drop) ⌝ }
     {
-        self.call(Call::Drop(p))
+        self.call(Call::Of(p, Act::Drop))
     }
 
     pub fn lines(self) -> Answer
@@ -118,9 +126,9 @@ impl Bus {
 
     // The second request bit, which asks for service until a status byte has answered it.
     pub fn second_request(self, p: Place, on: u8) -> Answer
-        ensures { λ r. ⌜ r ≡ call self (Call.SecondRequest p on) ⌝ }
+        ensures { λ r. ⌜ r ≡ call self (Call.Of p (Act.SecondRequest on)) ⌝ }
     {
-        self.call(Call::SecondRequest(p, on))
+        self.call(Call::Of(p, Act::SecondRequest(on)))
     }
 
     // Who drives each line, and how many.

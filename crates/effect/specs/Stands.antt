@@ -4,7 +4,7 @@ use Prim.Native.Nat.{ℕ}
 use mathlib.Core.Bool.{Bool, true, false, not, cond}
 use lib.Dec.{ltb, eqb}
 use Rattle.parties.specs.Places.{slot}
-use Rattle.effect.specs.Types.{Kind, Command, Data, Status, Standing, Nothing, Byte}
+use Rattle.effect.specs.Types.{Kind, Command, Data, Status, Standing, Nothing, Byte, View}
 
 abbrev pub stands : Standing → Bool
 stands Nothing = false
@@ -23,6 +23,10 @@ ofCommand Status = false
 abbrev pub sendsCommand : ℕ → Standing → Bool
 sendsCommand i Nothing = false
 sendsCommand i (Byte s k v e) = cond (ofCommand k) (eqb i (s .0)) false
+
+-- Does a command of its party stand, as a call sees it?
+abbrev pub sends : View → Bool
+sends v = sendsCommand (v .place .0) (v .standing)
 
 -- "EOI is driven by the sender of a standing byte with END" (document 02, Q-4)
 abbrev pub sendsEnd : ℕ → Standing → Bool

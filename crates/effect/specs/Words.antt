@@ -1,10 +1,11 @@
--- Document 01's number for each refusal.
+-- Document 01's number for each refusal, and for each act.
 -- Assumes nothing.
 use Prim.Native.Nat.{ℕ}
 use mathlib.Core.Bool.{Bool}
 use lib.Dec.{eqb}
-use Rattle.effect.specs.Types.{Refusal}
+use Rattle.effect.specs.Types.{Refusal, Act}
 use Rattle.effect.specs.Types.ruling
+use Rattle.effect.specs.Types.act-of
 
 -- The table of refusals; 0 is no refusal.
 abbrev pub refusalNumber : Refusal → ℕ
@@ -22,3 +23,18 @@ refusalNumber ruling.Record = 10
 
 abbrev pub isAccepted : Refusal → Bool
 isAccepted r = eqb (refusalNumber r) 0
+
+-- "Operations, decimal": those that name a party. Document 02, Q-5: 13 second request.
+abbrev pub actNumber : Act → ℕ
+actNumber act-of.Step = 1
+actNumber (act-of.Write v e) = 2
+actNumber act-of.Read = 3
+actNumber (act-of.PollRegister v) = 4
+actNumber (act-of.ListenOnly on) = 5
+actNumber (act-of.TalkOnly on) = 6
+actNumber act-of.TakeControl = 7
+actNumber act-of.GoToStandby = 8
+actNumber act-of.InterfaceClear = 9
+actNumber act-of.Reset = 10
+actNumber act-of.Drop = 11
+actNumber (act-of.SecondRequest on) = 13

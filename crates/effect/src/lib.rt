@@ -1,6 +1,8 @@
 // A call, its refusal, what stands on the bus, and what a call does to its own party and to that.
 use event::Event;
 use offer::Kind;
+use parties::Found;
+use parties::Lines;
 use party::Party;
 use party::Place;
 
@@ -34,22 +36,40 @@ pub enum Refusal {
     Record,
 }
 
-// The operations other than build, with the host's arguments as they come: a place, a byte, a switch or an END.
+// What a host may ask of a party, with its arguments as they come: a byte, a switch or an END.
+pub enum Act {
+    Step,
+    Write(u8, u8),
+    Read,
+    PollRegister(u8),
+    ListenOnly(u8),
+    TalkOnly(u8),
+    TakeControl,
+    GoToStandby,
+    InterfaceClear,
+    Reset,
+    Drop,
+    SecondRequest(u8),
+}
+
+// The operations other than build: those of a party, and those of the whole bus.
 pub enum Call {
-    Step(Place),
-    Write(Place, u8, u8),
-    Read(Place),
-    PollRegister(Place, u8),
-    ListenOnly(Place, u8),
-    TalkOnly(Place, u8),
-    TakeControl(Place),
-    GoToStandby(Place),
-    InterfaceClear(Place),
-    Reset(Place),
-    Drop(Place),
+    Of(Place, Act),
     Lines,
     Drivers,
-    SecondRequest(Place, u8),
+}
+
+// What a call sees of the bus as it comes.
+pub struct View {
+    pub lines: Lines,
+    pub standing: Standing,
+    pub place: Place,
+    // Its party, the first other one that talks, and whether the place has a party.
+    pub party: Party,
+    pub talker: Found,
+    pub inside: bool,
+    // Is it the system party?
+    pub chief: bool,
 }
 
 // What an answer says beside its refusal, its broken count and the bus.

@@ -12,3 +12,4 @@ pub use Rattle.parties.specs.declared.Lines.{Lines}
 pub use Rattle.effect.specs.declared.Standing.{Standing}
 pub use Rattle.effect.specs.declared.After.the-variants as after
 pub use Rattle.effect.specs.declared.Effect.{Effect}
+pub use Rattle.effect.specs.declared.View.{View}

@@ -4,22 +4,24 @@ ghost use Rattle.host_calls.specs.HostCalls.{read, asking, listenAccepto
 use effect::After;
 use effect::Effect;
 use effect::Said;
-use effect::Standing;
+use effect::View;
 use event::Event;
 use offer::Slot;
 use parties::Lines;
 use party::Acceptor;
 use party::Control;
-use party::Party;
 use service::Request;
 
-pub fn taken_out(input: Slot, st: Standing, p: Party) -> Effect
-    ensures { λ r. ⌜ r ≡ read input st p ⌝ }
+pub fn taken_out(v: View) -> Effect
+    ensures { λ r. ⌜ r ≡ read (v .party .input) v ⌝ }
 {
+    let st = v.standing;
+    let p = v.party;
+    let input = p.input;
     match input {
         Slot::Empty => Effect::stay(st, p),
-        Slot::Full(v, e) => Effect::does(
-            Said::say(Event::Read, v, e, 0),
+        Slot::Full(x, e) => Effect::does(
+            Said::say(Event::Read, x, e, 0),
             p.with_input(Slot::Empty),
             st,
         ),
@@ -27,9 +29,11 @@ pub fn taken_out(input: Slot, st: Standing, p: Party) -> Effect
 }
 
 // The poll register is written, or the second request bit switched.
-pub fn asking(request: Request, st: Standing, p: Party) -> Effect
-    ensures { λ r. ⌜ r ≡ asking request st p ⌝ }
+pub fn asking(request: Request, v: View) -> Effect
+    ensures { λ r. ⌜ r ≡ asking request v ⌝ }
 {
+    let st = v.standing;
+    let p = v.party;
     Effect::quiet(0, st, p.with_request(request))
 }
 
@@ -52,18 +56,23 @@ fn listener(on: bool, was: bool, l: Lines, a: Acceptor) -> Acceptor
     }
 }
 
-pub fn listening(on: bool, l: Lines, st: Standing, p: Party) -> Effect
-    ensures { λ r. ⌜ r ≡ listenOnly on l st p ⌝ }
+pub fn listening(on: bool, v: View) -> Effect
+    ensures { λ r. ⌜ r ≡ listenOnly on v ⌝ }
 {
+    let l = v.lines;
+    let st = v.standing;
+    let p = v.party;
     let role = p.role;
     let acceptor = p.acceptor;
     let q = p.with_acceptor(listener(on, role.listen, l, acceptor));
     Effect::quiet(0, st, q.with_role(role.with_flags(role.talk, on)))
 }
 
-pub fn in_control(control: Control, st: Standing, p: Party) -> Effect
-    ensures { λ r. ⌜ r ≡ controlled control st p ⌝ }
+pub fn in_control(control: Control, v: View) -> Effect
+    ensures { λ r. ⌜ r ≡ controlled control v ⌝ }
 {
+    let st = v.standing;
+    let p = v.party;
     Effect::quiet(p.held_bytes(), st, p.change_control(control)).then(After::Attend)
 }
 
@@ -82,9 +91,12 @@ fn reset_acceptor(l: Lines) -> Acceptor
 }
 
 // Attention follows the reset of an active party.
-pub fn reset(l: Lines, st: Standing, p: Party) -> Effect
-    ensures { λ r. ⌜ r ≡ reset l st p ⌝ }
+pub fn reset(v: View) -> Effect
+    ensures { λ r. ⌜ r ≡ reset v ⌝ }
 {
+    let l = v.lines;
+    let st = v.standing;
+    let p = v.party;
     let dropped = p.held_bytes();
     let wiped = p.wiped();
     if p.is_active() {

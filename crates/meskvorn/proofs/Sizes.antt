@@ -25,7 +25,7 @@ use Rattle.bus.specs.Record.{here, lines, built, noParties, refuse, buildExtend
 use Rattle.addresses.specs.Addresses.{names, placed, badBuild}
 use Rattle.bus.specs.Following.{followed}
 use Rattle.bus.specs.Drivers.{drivers}
-use Rattle.bus.specs.Machine.{call, refusal, accepted, run}
+use Rattle.bus.specs.Machine.{viewAt, call, refusal, accepted, run}
 use Rattle.runner.specs.Waiting.{byPlace}
 use Rattle.steps.specs.Steps.{steps}
 use Rattle.runner.specs.Runner.{turnsOf, runner}
@@ -61,7 +61,7 @@ call-size : (b : Bus) (c : Call) → Full b → Full (call b c .bus)
 call-size b c h =
     let l = lines b in
     let i = placeOf c .0 in
-    let e = effectOf l (otherTalker (b .count) i (b .parties)) (b .standing) (here b i) c in
+    let e = effectOf (viewAt (placeOf c) l b) c in
     either (isAccepted (refusal l b c)) (accepted l b c) (refuse (refusal l b c) b) (followed-size (e .after) (l .atn) b i e h) h
 
 pub drivers-size : (b : Bus) → Full b → Full (drivers b .answer .bus)

@@ -8,6 +8,7 @@ use Rattle.party.specs.declared.Place.{Place}
 use Rattle.parties.specs.Places.{place}
 use Rattle.effect.specs.declared.Refusal.the-variants as ruling
 use Rattle.effect.specs.declared.Call.the-variants as call-of
+use Rattle.effect.specs.declared.Act.the-variants as act-of
 use Rattle.bus.specs.declared.Bus.{Bus}
 use Rattle.bus.specs.declared.Answer.{Answer}
 use Rattle.bus.specs.Record.{build, refuse}
@@ -20,19 +21,19 @@ use Rattle.orders.specs.declared.Order.the-variants as order
 unfoldable pub orderOf : ℕ → ℕ → ℕ → ℕ → Order
 orderOf op party value extra =
     cond (eqb op 0) (order.Build (place party) value extra) (
-    cond (eqb op 1) (order.Call (call-of.Step (place party))) (
-    cond (eqb op 2) (order.Call (call-of.Write (place party) value extra)) (
-    cond (eqb op 3) (order.Call (call-of.Read (place party))) (
-    cond (eqb op 4) (order.Call (call-of.PollRegister (place party) value)) (
-    cond (eqb op 5) (order.Call (call-of.ListenOnly (place party) value)) (
-    cond (eqb op 6) (order.Call (call-of.TalkOnly (place party) value)) (
-    cond (eqb op 7) (order.Call (call-of.TakeControl (place party))) (
-    cond (eqb op 8) (order.Call (call-of.GoToStandby (place party))) (
-    cond (eqb op 9) (order.Call (call-of.InterfaceClear (place party))) (
-    cond (eqb op 10) (order.Call (call-of.Reset (place party))) (
-    cond (eqb op 11) (order.Call (call-of.Drop (place party))) (
+    cond (eqb op 1) (order.Call (call-of.Of (place party) act-of.Step)) (
+    cond (eqb op 2) (order.Call (call-of.Of (place party) (act-of.Write value extra))) (
+    cond (eqb op 3) (order.Call (call-of.Of (place party) act-of.Read)) (
+    cond (eqb op 4) (order.Call (call-of.Of (place party) (act-of.PollRegister value))) (
+    cond (eqb op 5) (order.Call (call-of.Of (place party) (act-of.ListenOnly value))) (
+    cond (eqb op 6) (order.Call (call-of.Of (place party) (act-of.TalkOnly value))) (
+    cond (eqb op 7) (order.Call (call-of.Of (place party) act-of.TakeControl)) (
+    cond (eqb op 8) (order.Call (call-of.Of (place party) act-of.GoToStandby)) (
+    cond (eqb op 9) (order.Call (call-of.Of (place party) act-of.InterfaceClear)) (
+    cond (eqb op 10) (order.Call (call-of.Of (place party) act-of.Reset)) (
+    cond (eqb op 11) (order.Call (call-of.Of (place party) act-of.Drop)) (
     cond (eqb op 12) (order.Call call-of.Lines) (
-    cond (eqb op 13) (order.Call (call-of.SecondRequest (place party) value)) order.Unknown)))))))))))))
+    cond (eqb op 13) (order.Call (call-of.Of (place party) (act-of.SecondRequest value))) order.Unknown)))))))))))))
 
 -- n numbers from a on: "extra, extra+1, .."
 unfoldable pub countUp : ℕ → ℕ → List ℕ

@@ -4,6 +4,7 @@ ghost use Prim.Native.Nat.{_≤_};
 ghost use Rattle.orders.specs.Orders.{countUp, buildFrom, orderOf, obey};
 use bus::Answer;
 use bus::Bus;
+use effect::Act;
 use effect::Call;
 use effect::Refusal;
 use party::Place;
@@ -21,19 +22,19 @@ pub fn order_of(op: u8, party: u8, value: u8, extra: u8) -> Order
 {
     match op {
         0 => Order::Build(Place(party), value, extra),
-        1 => Order::Call(Call::Step(Place(party))),
-        2 => Order::Call(Call::Write(Place(party), value, extra)),
-        3 => Order::Call(Call::Read(Place(party))),
-        4 => Order::Call(Call::PollRegister(Place(party), value)),
-        5 => Order::Call(Call::ListenOnly(Place(party), value)),
-        6 => Order::Call(Call::TalkOnly(Place(party), value)),
-        7 => Order::Call(Call::TakeControl(Place(party))),
-        8 => Order::Call(Call::GoToStandby(Place(party))),
-        9 => Order::Call(Call::InterfaceClear(Place(party))),
-        10 => Order::Call(Call::Reset(Place(party))),
-        11 => Order::Call(Call::Drop(Place(party))),
+        1 => Order::Call(Call::Of(Place(party), Act::Step)),
+        2 => Order::Call(Call::Of(Place(party), Act::Write(value, extra))),
+        3 => Order::Call(Call::Of(Place(party), Act::Read)),
+        4 => Order::Call(Call::Of(Place(party), Act::PollRegister(value))),
+        5 => Order::Call(Call::Of(Place(party), Act::ListenOnly(value))),
+        6 => Order::Call(Call::Of(Place(party), Act::TalkOnly(value))),
+        7 => Order::Call(Call::Of(Place(party), Act::TakeControl)),
+        8 => Order::Call(Call::Of(Place(party), Act::GoToStandby)),
+        9 => Order::Call(Call::Of(Place(party), Act::InterfaceClear)),
+        10 => Order::Call(Call::Of(Place(party), Act::Reset)),
+        11 => Order::Call(Call::Of(Place(party), Act::Drop)),
         12 => Order::Call(Call::Lines),
-        13 => Order::Call(Call::SecondRequest(Place(party), value)),
+        13 => Order::Call(Call::Of(Place(party), Act::SecondRequest(value))),
         _ => Order::Unknown,
     }
 }

@@ -17,10 +17,11 @@ use Rattle.source_step.specs.SourceStep.{put, ready, ended, sourceStep}
 use Rattle.acceptor_step.specs.AcceptorStep.{take, acceptorStep}
 use Rattle.host_calls.specs.HostCalls.{read}
 use Rattle.accepted.specs.Accepted.{effect, effectOf}
-use Rattle.bus.specs.Types.{Place, Party, Source, Sids, Sgns, Sdys, Strs, Acceptor, Aids, Anrs, Acrs, Acds, Awns, Slot, Empty, Full, Kind, Command, Data, Status, Event, Found, Lines, Standing, Nothing, Byte, Call, After, Effect}
+use Rattle.bus.specs.Types.{Place, Party, Source, Sids, Sgns, Sdys, Strs, Acceptor, Aids, Anrs, Acrs, Acds, Awns, Slot, Empty, Full, Kind, Command, Data, Status, Event, Found, Lines, Standing, Nothing, Byte, Call, After, Effect, View}
 use Rattle.bus.specs.Types.ev
 use Rattle.bus.specs.Types.after
 use Rattle.bus.specs.Types.call-of
+use Rattle.bus.specs.Types.act-of
 use Rattle.bus.specs.Delivery.{deed, puts-host, puts-status, takes, ends, neither}
 
 abbrev pub isStat : Event → Bool
@@ -28,20 +29,20 @@ isStat x = elim (deed x) [ puts-host ↦ false | puts-status ↦ true | takes �
 
 -- the request that a call leaves its party with, before it settles
 abbrev pub asked : Call → Event → Request → Request
-asked (call-of.Step i) x q = cond (isStat x) (reported q) q
-asked (call-of.Write i v e) x q = q
-asked (call-of.Read i) x q = q
-asked (call-of.PollRegister i v) x q = withSaved v q
-asked (call-of.ListenOnly i on) x q = q
-asked (call-of.TalkOnly i on) x q = q
-asked (call-of.TakeControl i) x q = q
-asked (call-of.GoToStandby i) x q = q
-asked (call-of.InterfaceClear i) x q = q
-asked (call-of.Reset i) x q = withRsv2 false q
-asked (call-of.Drop i) x q = q
+asked (call-of.Of i act-of.Step) x q = cond (isStat x) (reported q) q
+asked (call-of.Of i (act-of.Write v e)) x q = q
+asked (call-of.Of i act-of.Read) x q = q
+asked (call-of.Of i (act-of.PollRegister v)) x q = withSaved v q
+asked (call-of.Of i (act-of.ListenOnly on)) x q = q
+asked (call-of.Of i (act-of.TalkOnly on)) x q = q
+asked (call-of.Of i act-of.TakeControl) x q = q
+asked (call-of.Of i act-of.GoToStandby) x q = q
+asked (call-of.Of i act-of.InterfaceClear) x q = q
+asked (call-of.Of i act-of.Reset) x q = withRsv2 false q
+asked (call-of.Of i act-of.Drop) x q = q
+asked (call-of.Of i (act-of.SecondRequest on)) x q = withRsv2 (isOn on) q
 asked call-of.Lines x q = q
 asked call-of.Drivers x q = q
-asked (call-of.SecondRequest i on) x q = withRsv2 (isOn on) q
 
 -- What follows finds ATN as the call did where no attention follows, and control goes on from a party whose request is as it was.
 abbrev pub Fair : After → Party → Party → Type 0
@@ -111,34 +112,36 @@ module _ (l : Lines) (p : Party) where
   acceptor-turn Acds st = silent refl refl refl
   acceptor-turn Awns st = cond-elim Turn (l .dav) (λ _. silent refl refl refl) (λ _. silent refl refl refl)
 
-  pub step-turn : (f : Found) (st : Standing) (i : Place) → Turn (effect l f st i p)
-  step-turn f st i = cond-elim Turn (isSource (l .atn) p) (λ _. source-turn (p .source) f st i) (λ _. acceptor-turn (p .acceptor) st)
-
   -- what each call leaves
   pub record Leaves (c : Call) (e : Effect) : Type 0 where
     pub request : e .party .request ≡ asked c (e .said .event) (p .request)
     pub follows : Fair (e .after) p (e .party)
 
-  step-leaves : (i : Place) (e : Effect) → Turn e → Leaves (call-of.Step i) e
+  step-leaves : (i : Place) (e : Effect) → Turn e → Leaves (call-of.Of i act-of.Step) e
   step-leaves i e (silent n r a) = record { request = rw n r; follows = fair (e .after) p (e .party) a r }
   step-leaves i e (reports y w) = record { request = rw (y, w .party) refl; follows = rw (w .follows, w .party) refl }
 
-  read-leaves : (i : Place) (s : Slot) (st : Standing) → Leaves (call-of.Read i) (read s st p)
-  read-leaves i Empty st = record { request = refl; follows = refl }
-  read-leaves i (Full v e) st = record { request = refl; follows = refl }
+module _ (v : View) where
+  pub step-turn : Turn (v .lines) (v .party) (effect v)
+  step-turn = let l = v .lines in let p = v .party in
+      cond-elim (Turn l p) (isSource (l .atn) p) (λ _. source-turn l p (p .source) (v .talker) (v .standing) (v .place)) (λ _. acceptor-turn l p (p .acceptor) (v .standing))
 
-  pub leaves : (f : Found) (st : Standing) (c : Call) → Leaves c (effectOf l f st p c)
-  leaves f st (call-of.Step i) = step-leaves i (effect l f st i p) (step-turn f st i)
-  leaves f st (call-of.Write i v e) = record { request = refl; follows = refl }
-  leaves f st (call-of.Read i) = read-leaves i (p .input) st
-  leaves f st (call-of.PollRegister i v) = record { request = refl; follows = refl }
-  leaves f st (call-of.ListenOnly i on) = record { request = refl; follows = refl }
-  leaves f st (call-of.TalkOnly i on) = record { request = refl; follows = refl }
-  leaves f st (call-of.TakeControl i) = record { request = refl; follows = refl }
-  leaves f st (call-of.GoToStandby i) = record { request = refl; follows = refl }
-  leaves f st (call-of.InterfaceClear i) = record { request = refl; follows = refl }
-  leaves f st (call-of.Reset i) = cond-elim (Leaves (call-of.Reset i)) (isActive p) (λ _. record { request = refl; follows = refl }) (λ h. record { request = refl; follows = sym h })
-  leaves f st (call-of.Drop i) = record { request = refl; follows = refl }
-  leaves f st call-of.Lines = record { request = refl; follows = refl }
-  leaves f st call-of.Drivers = record { request = refl; follows = refl }
-  leaves f st (call-of.SecondRequest i on) = record { request = refl; follows = refl }
+  read-leaves : (i : Place) (s : Slot) → Leaves (v .lines) (v .party) (call-of.Of i act-of.Read) (read s v)
+  read-leaves i Empty = record { request = refl; follows = refl }
+  read-leaves i (Full x e) = record { request = refl; follows = refl }
+
+  pub leaves : (c : Call) → Leaves (v .lines) (v .party) c (effectOf v c)
+  leaves (call-of.Of i act-of.Step) = step-leaves (v .lines) (v .party) i (effect v) step-turn
+  leaves (call-of.Of i (act-of.Write x e)) = record { request = refl; follows = refl }
+  leaves (call-of.Of i act-of.Read) = read-leaves i (v .party .input)
+  leaves (call-of.Of i (act-of.PollRegister x)) = record { request = refl; follows = refl }
+  leaves (call-of.Of i (act-of.ListenOnly on)) = record { request = refl; follows = refl }
+  leaves (call-of.Of i (act-of.TalkOnly on)) = record { request = refl; follows = refl }
+  leaves (call-of.Of i act-of.TakeControl) = record { request = refl; follows = refl }
+  leaves (call-of.Of i act-of.GoToStandby) = record { request = refl; follows = refl }
+  leaves (call-of.Of i act-of.InterfaceClear) = record { request = refl; follows = refl }
+  leaves (call-of.Of i act-of.Reset) = cond-elim (Leaves (v .lines) (v .party) (call-of.Of i act-of.Reset)) (isActive (v .party)) (λ _. record { request = refl; follows = refl }) (λ h. record { request = refl; follows = sym h })
+  leaves (call-of.Of i act-of.Drop) = record { request = refl; follows = refl }
+  leaves (call-of.Of i (act-of.SecondRequest on)) = record { request = refl; follows = refl }
+  leaves call-of.Lines = record { request = refl; follows = refl }
+  leaves call-of.Drivers = record { request = refl; follows = refl }

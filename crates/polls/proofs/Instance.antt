@@ -1,7 +1,7 @@
 -- The premises of the condition hold of an example: each call of the list is looked at.
 -- Assumes nothing.
 use mathlib.Core.Path.{_≡_, refl, ap}
-use mathlib.Core.Bool.{Bool, true, false, not, _&&_}
+use mathlib.Core.Bool.{Bool, true, false, not, _&&_, _||_}
 use mathlib.Core.Logic.{_⊎_, inl, inr}
 use Prim.Native.Nat.{ℕ, zero, suc, _+_, _-_, _<_, _≤_}
 use native.Mathlib.Omega.{arith}
@@ -10,8 +10,10 @@ use borrow.Author.Tests.{eqb-true, eqb-false}
 use Rattle.message.specs.Meaning.{meaning, sevenBits, named}
 use Rattle.service.specs.Service.{rsv}
 use Rattle.role.proofs.Logic.{no}
+use Rattle.effect.specs.Words.{actNumber}
 use Rattle.bus.specs.Types.{Call}
 use Rattle.bus.specs.Types.call-of
+use Rattle.bus.specs.Types.act-of
 use Rattle.bus.specs.Delivery.{moment, answerAt}
 use Rattle.polls.specs.Requests.{requestAt, polled, Poll, AsksAt, Left, NoneBetween}
 use Rattle.polls.specs.Examples.{bus, calls, Speaks}
@@ -36,20 +38,9 @@ holds a (suc n) f h j l m = go (λ k. holds (suc a) n f k j) (f a) refl h (eqb j
 
 -- a call that switches the bit of party 1 or resets it
 abbrev touches : Call → Bool
-touches (call-of.Step p) = false
-touches (call-of.Write p v e) = false
-touches (call-of.Read p) = false
-touches (call-of.PollRegister p v) = false
-touches (call-of.ListenOnly p on) = false
-touches (call-of.TalkOnly p on) = false
-touches (call-of.TakeControl p) = false
-touches (call-of.GoToStandby p) = false
-touches (call-of.InterfaceClear p) = false
-touches (call-of.Reset p) = eqb (p .0) 1
-touches (call-of.Drop p) = false
+touches (call-of.Of p a) = (eqb (actNumber a) 10 || eqb (actNumber a) 13) && eqb (p .0) 1
 touches call-of.Lines = false
 touches call-of.Drivers = false
-touches (call-of.SecondRequest p on) = eqb (p .0) 1
 
 of-false : (x : Bool) → not x ≡ true → x ≡ true → ⊥
 of-false true h e = no (cc)
@@ -79,7 +70,7 @@ left = record {
   clear = λ k l m. clear-bit (rsv (requestAt bus calls 1 k .live)) (holds 2 48 (λ j. not (rsv (requestAt bus calls 1 j .live))) refl k l (omega arith));
 }
   where
-    touched : (k : ℕ) → ((on : ℕ) × (moment bus calls k .call ≡ call-of.SecondRequest (record { 0 = 1 }) on)) ⊎ (moment bus calls k .call ≡ call-of.Reset (record { 0 = 1 })) → touches (moment bus calls k .call) ≡ true
+    touched : (k : ℕ) → ((on : ℕ) × (moment bus calls k .call ≡ call-of.Of (record { 0 = 1 }) (act-of.SecondRequest on))) ⊎ (moment bus calls k .call ≡ call-of.Of (record { 0 = 1 }) act-of.Reset) → touches (moment bus calls k .call) ≡ true
     touched k (inl e) = ap touches (e .1)
     touched k (inr e) = ap touches e
 

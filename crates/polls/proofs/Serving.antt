@@ -41,6 +41,7 @@ use Rattle.bus.specs.Types.ev
 use Rattle.bus.specs.Types.ruling
 use Rattle.bus.specs.Types.after
 use Rattle.bus.specs.Types.call-of
+use Rattle.bus.specs.Types.act-of
 use Rattle.polls.specs.Requests.{polledOn}
 use Rattle.polls.proofs.Asked.{isStat, asked, Fair, Reports, Turn, silent, reports, step-turn, Leaves, leaves}
 
@@ -121,27 +122,27 @@ module _ (b : Bus) (I : Inv b) where
 
 -- what a call leaves of its party's request, read part by part
 asked-service : (c : Call) (x : Event) (q : Request) → asked c x q .service ≡ q .service
-asked-service (call-of.Step i) x q = cond-elim (λ (y : Request). y .service ≡ q .service) (isStat x) (λ _. refl) (λ _. refl)
-asked-service (call-of.Write i v e) x q = refl
-asked-service (call-of.Read i) x q = refl
-asked-service (call-of.PollRegister i v) x q = refl
-asked-service (call-of.ListenOnly i on) x q = refl
-asked-service (call-of.TalkOnly i on) x q = refl
-asked-service (call-of.TakeControl i) x q = refl
-asked-service (call-of.GoToStandby i) x q = refl
-asked-service (call-of.InterfaceClear i) x q = refl
-asked-service (call-of.Reset i) x q = refl
-asked-service (call-of.Drop i) x q = refl
+asked-service (call-of.Of i act-of.Step) x q = cond-elim (λ (y : Request). y .service ≡ q .service) (isStat x) (λ _. refl) (λ _. refl)
+asked-service (call-of.Of i (act-of.Write v e)) x q = refl
+asked-service (call-of.Of i act-of.Read) x q = refl
+asked-service (call-of.Of i (act-of.PollRegister v)) x q = refl
+asked-service (call-of.Of i (act-of.ListenOnly on)) x q = refl
+asked-service (call-of.Of i (act-of.TalkOnly on)) x q = refl
+asked-service (call-of.Of i act-of.TakeControl) x q = refl
+asked-service (call-of.Of i act-of.GoToStandby) x q = refl
+asked-service (call-of.Of i act-of.InterfaceClear) x q = refl
+asked-service (call-of.Of i act-of.Reset) x q = refl
+asked-service (call-of.Of i act-of.Drop) x q = refl
+asked-service (call-of.Of i (act-of.SecondRequest on)) x q = refl
 asked-service call-of.Lines x q = refl
 asked-service call-of.Drivers x q = refl
-asked-service (call-of.SecondRequest i on) x q = refl
 
 -- by call c with event x the bit of party j may change: it is switched, reset, or its status byte is put
 abbrev pub Switches : Call → ℕ → Type 0
-Switches c j = ((on : ℕ) × (c ≡ call-of.SecondRequest (place j) on)) ⊎ (c ≡ call-of.Reset (place j))
+Switches c j = ((on : ℕ) × (c ≡ call-of.Of (place j) (act-of.SecondRequest on))) ⊎ (c ≡ call-of.Of (place j) act-of.Reset)
 
 abbrev pub Puts : Call → Event → ℕ → Type 0
-Puts c x j = (c ≡ call-of.Step (place j)) × (x ≡ ev.Stat)
+Puts c x j = (c ≡ call-of.Of (place j) act-of.Step) × (x ≡ ev.Stat)
 
 abbrev Turns : Call → Event → ℕ → Type 0
 Turns c x j = Switches c j ⊎ Puts c x j
@@ -163,20 +164,20 @@ is-stat ev.Read e = no (cc)
 is-stat ev.Lines e = no (cc)
 
 asked-bit : (c : Call) (x : Event) (q : Request) → (asked c x q .rsv2 ≡ q .rsv2) ⊎ Turns c x (placeOf c .0)
-asked-bit (call-of.Step i) x q = cond-elim (λ (y : Request). (y .rsv2 ≡ q .rsv2) ⊎ Turns (call-of.Step i) x (i .0)) (isStat x) (λ h. inr (inr (refl, is-stat x h))) (λ _. inl refl)
-asked-bit (call-of.Write i v e) x q = inl refl
-asked-bit (call-of.Read i) x q = inl refl
-asked-bit (call-of.PollRegister i v) x q = inl refl
-asked-bit (call-of.ListenOnly i on) x q = inl refl
-asked-bit (call-of.TalkOnly i on) x q = inl refl
-asked-bit (call-of.TakeControl i) x q = inl refl
-asked-bit (call-of.GoToStandby i) x q = inl refl
-asked-bit (call-of.InterfaceClear i) x q = inl refl
-asked-bit (call-of.Reset i) x q = inr (inl (inr refl))
-asked-bit (call-of.Drop i) x q = inl refl
+asked-bit (call-of.Of i act-of.Step) x q = cond-elim (λ (y : Request). (y .rsv2 ≡ q .rsv2) ⊎ Turns (call-of.Of i act-of.Step) x (i .0)) (isStat x) (λ h. inr (inr (refl, is-stat x h))) (λ _. inl refl)
+asked-bit (call-of.Of i (act-of.Write v e)) x q = inl refl
+asked-bit (call-of.Of i act-of.Read) x q = inl refl
+asked-bit (call-of.Of i (act-of.PollRegister v)) x q = inl refl
+asked-bit (call-of.Of i (act-of.ListenOnly on)) x q = inl refl
+asked-bit (call-of.Of i (act-of.TalkOnly on)) x q = inl refl
+asked-bit (call-of.Of i act-of.TakeControl) x q = inl refl
+asked-bit (call-of.Of i act-of.GoToStandby) x q = inl refl
+asked-bit (call-of.Of i act-of.InterfaceClear) x q = inl refl
+asked-bit (call-of.Of i act-of.Reset) x q = inr (inl (inr refl))
+asked-bit (call-of.Of i act-of.Drop) x q = inl refl
+asked-bit (call-of.Of i (act-of.SecondRequest on)) x q = inr (inl (inl (on, refl)))
 asked-bit call-of.Lines x q = inl refl
 asked-bit call-of.Drivers x q = inl refl
-asked-bit (call-of.SecondRequest i on) x q = inr (inl (inl (on, refl)))
 
 -- party j puts a status byte
 pub record Stat (b : Bus) (a : Answer) (j : ℕ) : Type 0 where
@@ -192,8 +193,8 @@ pub record Served (b : Bus) (c : Call) (a : Answer) : Type 0 where
   pub service : (j : ℕ) → j < b .count
       → here (a .bus) j .request .service ≡ serviceSettled (here b j .request .service) (asks (here (a .bus) j .request .live) (here (a .bus) j .request .rsv2)) (polledOn (a .bus) j)
   pub bit : (j : ℕ) → j < b .count → (here (a .bus) j .request .rsv2 ≡ here b j .request .rsv2) ⊎ (((a .refusal ≡ ruling.Accepted) × Switches c j) ⊎ Puts c (a .event) j)
-  pub switched : (j : ℕ) → a .refusal ≡ ruling.Accepted → c ≡ call-of.SecondRequest (place j) 1 → (j < b .count) × (here (a .bus) j .request .rsv2 ≡ true) × (polledOn (a .bus) j ≡ polledOn b j)
-  pub stat : (j : ℕ) → c ≡ call-of.Step (place j) → a .event ≡ ev.Stat → Stat b a j
+  pub switched : (j : ℕ) → a .refusal ≡ ruling.Accepted → c ≡ call-of.Of (place j) (act-of.SecondRequest 1) → (j < b .count) × (here (a .bus) j .request .rsv2 ≡ true) × (polledOn (a .bus) j ≡ polledOn b j)
+  pub stat : (j : ℕ) → c ≡ call-of.Of (place j) act-of.Step → a .event ≡ ev.Stat → Stat b a j
 
 -- the event of an effect that puts a status byte is the answer's, and the other way round
 followed-stat : (x : After) (t : Bool) (b : Bus) (i : ℕ) (e : Effect) → followed x t b i e .event ≡ ev.Stat → e .said .event ≡ ev.Stat
@@ -219,13 +220,13 @@ module _ (b : Bus) (I : Inv b) (c : Call) (ok : isAccepted (m.refusal (lines b) 
   i = placeOf c .0
 
   abbrev e : Effect
-  e = effectOf (lines b) (otherTalker (b .count) i (b .parties)) (b .standing) (here b i) c
+  e = effectOf (m.viewAt (placeOf c) (lines b) b) c
 
   abbrev a : Answer
   a = m.accepted (lines b) b c
 
   L : Leaves (lines b) (here b i) c e
-  L = leaves (lines b) (here b i) (otherTalker (b .count) i (b .parties)) (b .standing) c
+  L = leaves (m.viewAt (placeOf c) (lines b) b) c
 
   room : i < length (b .parties)
   room = let z = I .size in test (ltb i 15) (λ h. let k = ltb-true i 15 h in omega arith) (λ h. let k = ltb-false i 15 h in let s : 0 ≡ i = sym (rw h refl) ∙ seat b c ok in omega arith)
@@ -267,18 +268,18 @@ module _ (b : Bus) (I : Inv b) (c : Call) (ok : isAccepted (m.refusal (lines b) 
   own-bit l = ap (λ (q : Request). q .rsv2) (next i l) ∙ bit-settled (polledOn (a .bus) i) (left b I i room e i) ∙ rw (eq-eqb i i refl) refl
 
 -- a step that puts a status byte
-module _ (b : Bus) (I : Inv b) (j : ℕ) (ok : isAccepted (m.refusal (lines b) b (call-of.Step (place j))) ≡ true) where
+module _ (b : Bus) (I : Inv b) (j : ℕ) (ok : isAccepted (m.refusal (lines b) b (call-of.Of (place j) act-of.Step)) ≡ true) where
   abbrev it : Effect
-  it = effectOf (lines b) (otherTalker (b .count) j (b .parties)) (b .standing) (here b j) (call-of.Step (place j))
+  it = effectOf (m.viewAt (place j) (lines b) b) (call-of.Of (place j) act-of.Step)
 
   abbrev answer : Answer
-  answer = m.accepted (lines b) b (call-of.Step (place j))
+  answer = m.accepted (lines b) b (call-of.Of (place j) act-of.Step)
 
   inside : j < b .count
   inside = known b (place j) ruling.Accepted ok .0
 
   reported-by : it .said .event ≡ ev.Stat → Reports (lines b) (here b j) it
-  reported-by h = go (step-turn (lines b) (here b j) (otherTalker (b .count) j (b .parties)) (b .standing) (place j))
+  reported-by h = go (step-turn (m.viewAt (place j) (lines b) b))
     where
       go : Turn (lines b) (here b j) it → Reports (lines b) (here b j) it
       go (silent n r x) = let z = ap isStat h in no (cc)
@@ -291,19 +292,19 @@ module _ (b : Bus) (I : Inv b) (j : ℕ) (ok : isAccepted (m.refusal (lines b) b
   step-stat h = record {
     there = inside;
     before = w .polled;
-    after = follow-polled b I j (room b I (call-of.Step (place j)) ok) it inside (it .after) (w .follows) (ap isActive (w .party)) (ap (λ (p : Party). p .role) (w .party)) ∙ w .polled;
+    after = follow-polled b I j (room b I (call-of.Of (place j) act-of.Step) ok) it inside (it .after) (w .follows) (ap isActive (w .party)) (ap (λ (p : Party). p .role) (w .party)) ∙ w .polled;
     byte = ap (λ (x : After). followed x (atnOf b) b j it .byte) (w .follows) ∙ w .byte;
-    bit = own-bit b I (call-of.Step (place j)) ok inside ∙ ap (λ (p : Party). p .request .rsv2) (w .party);
+    bit = own-bit b I (call-of.Of (place j) act-of.Step) ok inside ∙ ap (λ (p : Party). p .request .rsv2) (w .party);
   }
     where
       w : Reports (lines b) (here b j) it
       w = reported-by (followed-stat (it .after) (atnOf b) b j it h)
 
 -- the bit is switched on
-switched-on : (b : Bus) → Inv b → (j : ℕ) → isAccepted (m.refusal (lines b) b (call-of.SecondRequest (place j) 1)) ≡ true → let a = m.accepted (lines b) b (call-of.SecondRequest (place j) 1) in
+switched-on : (b : Bus) → Inv b → (j : ℕ) → isAccepted (m.refusal (lines b) b (call-of.Of (place j) (act-of.SecondRequest 1))) ≡ true → let a = m.accepted (lines b) b (call-of.Of (place j) (act-of.SecondRequest 1)) in
     (j < b .count) × (here (a .bus) j .request .rsv2 ≡ true) × (polledOn (a .bus) j ≡ polledOn b j)
 switched-on b I j ok = let l = known b (place j) (ofSwitch 1 ruling.Accepted) ok .0 in
-    (l, own-bit b I (call-of.SecondRequest (place j) 1) ok l, follow-polled b I j (room b I (call-of.SecondRequest (place j) 1) ok) (secondRequest true (b .standing) (here b j)) l after.Settle refl refl refl)
+    (l, own-bit b I (call-of.Of (place j) (act-of.SecondRequest 1)) ok l, follow-polled b I j (room b I (call-of.Of (place j) (act-of.SecondRequest 1)) ok) (secondRequest true (m.viewAt (place j) (lines b) b)) l after.Settle refl refl refl)
 
 accepted-served : (b : Bus) → Inv b → (c : Call) → isAccepted (m.refusal (lines b) b c) ≡ true → Served b c (m.accepted (lines b) b c)
 accepted-served b I c ok = record {
@@ -314,7 +315,7 @@ accepted-served b I c ok = record {
   stat = λ j h. subst (λ (c : Call). isAccepted (m.refusal (lines b) b c) ≡ true → m.accepted (lines b) b c .event ≡ ev.Stat → Stat b (m.accepted (lines b) b c) j) (sym h) (step-stat b I j) ok;
 }
   where
-    told : (j : ℕ) → c ≡ call-of.Step (place j) → e b I c ok .said .event ≡ ev.Stat → m.accepted (lines b) b c .event ≡ ev.Stat
+    told : (j : ℕ) → c ≡ call-of.Of (place j) act-of.Step → e b I c ok .said .event ≡ ev.Stat → m.accepted (lines b) b c .event ≡ ev.Stat
     told j h = subst (λ (c : Call). (ok : isAccepted (m.refusal (lines b) b c) ≡ true) → e b I c ok .said .event ≡ ev.Stat → m.accepted (lines b) b c .event ≡ ev.Stat) (sym h) (stat-event b I j) ok
 
     go : (j : ℕ) → (here (m.accepted (lines b) b c .bus) j .request .rsv2 ≡ here b j .request .rsv2) ⊎ Turns c (e b I c ok .said .event) j

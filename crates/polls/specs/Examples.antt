@@ -11,11 +11,12 @@ use Rattle.bus.specs.Types.{Call}
 use Rattle.bus.specs.Types.ruling
 use Rattle.bus.specs.Types.ev
 use Rattle.bus.specs.Types.call-of
+use Rattle.bus.specs.Types.act-of
 use Rattle.bus.specs.Rows.{Report, Run, outcome, expected, ok, moved, says, refused, step, read, listenOnly, clear, standby, run, sends}
 use Rattle.polls.specs.Requests.{StatAt, Left, First}
 
 abbrev request : ℕ → Call
-request on = call-of.SecondRequest (place 1) on
+request on = call-of.Of (place 1) (act-of.SecondRequest on)
 
 -- The lines answer: SRQ is 4, and B0 is ATN, NDAC and NRFD.
 abbrev lines : ℕ → Call × Report
@@ -23,7 +24,7 @@ lines v = (call-of.Lines, says ev.Lines v false)
 
 -- Party 0, the controller, and party 1, whose poll register is 01.
 abbrev rack : List (Call × Report) → Run
-rack calls = run (4 ∷ 5 ∷ []) ((call-of.PollRegister (place 1) 0x01, ok) ∷ calls)
+rack calls = run (4 ∷ 5 ∷ []) ((call-of.Of (place 1) (act-of.PollRegister 0x01), ok) ∷ calls)
 
 -- Party 0 takes charge and polls party 1: SPE, its talk address. Then it listens.
 abbrev polls : List (Call × Report) → List (Call × Report)
@@ -31,7 +32,7 @@ polls rest = (clear 0, ok) ∷ sends 0x18 ((step 1, moved) ∷ sends 0x45 ((stan
 
 -- It breaks the poll off, sees these lines, and polls again.
 abbrev again : ℕ → List (Call × Report) → List (Call × Report)
-again v rest = (call-of.TakeControl (place 0), ok) ∷ lines v ∷ (standby 0, ok) ∷ rest
+again v rest = (call-of.Of (place 0) act-of.TakeControl, ok) ∷ lines v ∷ (standby 0, ok) ∷ rest
 
 -- Party 1 sends its status byte, which party 0 takes and its host reads.
 abbrev reports : ℕ → List (Call × Report) → List (Call × Report)
@@ -64,18 +65,18 @@ R3 = rack (polls ((request 1, ok) ∷ reports 0x01 (again 0xb4 (reports 0x41 (ag
 -- "Reset clears rsv2", and so does switching it off. An interface clear leaves it: in `polls` there is one, and SRQ is on after it.
 abbrev pub R4 : List Run
 R4 =
-    rack ((request 1, ok) ∷ lines 4 ∷ (call-of.Reset (place 1), ok) ∷ lines 0 ∷ polls (reports 0x01 []))
+    rack ((request 1, ok) ∷ lines 4 ∷ (call-of.Of (place 1) act-of.Reset, ok) ∷ lines 0 ∷ polls (reports 0x01 []))
     ∷ rack ((request 1, ok) ∷ lines 4 ∷ (request 0, ok) ∷ lines 0 ∷ polls (reports 0x01 []))
     ∷ rack ((request 1, ok) ∷ (clear 0, ok) ∷ lines 0xb4 ∷ [])
     ∷ []
 
 -- "bit 64 of live, or rsv2": either asks, and a register that has the bit asks on.
 abbrev pub R5 : List Run
-R5 = rack ((call-of.PollRegister (place 1) 0x41, ok) ∷ (request 1, ok) ∷ lines 4 ∷ polls (reports 0x41 (again 0xb0 (reports 0x41 [])))) ∷ []
+R5 = rack ((call-of.Of (place 1) (act-of.PollRegister 0x41), ok) ∷ (request 1, ok) ∷ lines 4 ∷ polls (reports 0x41 (again 0xb0 (reports 0x41 [])))) ∷ []
 
 -- "switches it with 0 or 1": another value is refused, after a party that is not there.
 abbrev pub R6 : List Run
-R6 = rack ((request 2, refused ruling.BadValue) ∷ lines 0 ∷ (call-of.SecondRequest (place 2) 2, refused ruling.NoParty) ∷ (call-of.SecondRequest (place 2) 1, refused ruling.NoParty) ∷ lines 0 ∷ []) ∷ []
+R6 = rack ((request 2, refused ruling.BadValue) ∷ lines 0 ∷ (call-of.Of (place 2) (act-of.SecondRequest 2), refused ruling.NoParty) ∷ (call-of.Of (place 2) (act-of.SecondRequest 1), refused ruling.NoParty) ∷ lines 0 ∷ []) ∷ []
 
 abbrev pub rows : List (List Run)
 rows = R1 ∷ R2 ∷ R3 ∷ R4 ∷ R5 ∷ R6 ∷ []

@@ -18,6 +18,7 @@ use Rattle.bus.specs.Types.{Place, Name, Call}
 use Rattle.bus.specs.Types.ruling
 use Rattle.bus.specs.Types.ev
 use Rattle.bus.specs.Types.call-of
+use Rattle.bus.specs.Types.act-of
 use Rattle.bus.specs.Record.{here, lines, buildExtended}
 use Rattle.bus.specs.Delivery.{moment, busAt, answerAt}
 use Rattle.runner.specs.Waiting.{TieOrder}
@@ -46,7 +47,7 @@ module _ (b : Bus) (cs : List Call) (p : ℕ) where
 
   -- "status bytes the events stat": by call k party p puts one.
   abbrev pub StatAt : ℕ → Type 0
-  StatAt k = (k < length cs) × (moment b cs k .call ≡ call-of.Step (place p)) × (answerAt b cs k .event ≡ ev.Stat)
+  StatAt k = (k < length cs) × (moment b cs k .call ≡ call-of.Of (place p) act-of.Step) × (answerAt b cs k .event ≡ ev.Stat)
 
   -- "sets the bit": bit 64 of what call k put up.
   abbrev pub bit64 : ℕ → Bool
@@ -55,14 +56,14 @@ module _ (b : Bus) (cs : List Call) (p : ℕ) where
   -- "a request switched on in NPRS outside a poll": by call r.
   pub record AsksAt (r : ℕ) : Type 0 where
     pub there : r < length cs
-    pub call : moment b cs r .call ≡ call-of.SecondRequest (place p) 1
+    pub call : moment b cs r .call ≡ call-of.Of (place p) (act-of.SecondRequest 1)
     pub accepted : answerAt b cs r .refusal ≡ ruling.Accepted
     pub nprs : requestAt r .service ≡ Nprs
     pub outside : polled r ≡ false
 
   -- Call k switches the bit of party p, on or off, or resets it.
   abbrev pub TouchesAt : ℕ → Type 0
-  TouchesAt k = (answerAt b cs k .refusal ≡ ruling.Accepted) × (((on : ℕ) × (moment b cs k .call ≡ call-of.SecondRequest (place p) on)) ⊎ (moment b cs k .call ≡ call-of.Reset (place p)))
+  TouchesAt k = (answerAt b cs k .refusal ≡ ruling.Accepted) × (((on : ℕ) × (moment b cs k .call ≡ call-of.Of (place p) (act-of.SecondRequest on))) ⊎ (moment b cs k .call ≡ call-of.Of (place p) act-of.Reset))
 
   -- "then neither switched nor reset", "with bit 64 of live and saved clear throughout": from call r until call l comes. That live has it clear is enough: what saved has
   -- shows in live as soon as the party is not polled.

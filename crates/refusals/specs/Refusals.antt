@@ -5,10 +5,13 @@ use mathlib.Core.Bool.{Bool, true, false, cond, _&&_}
 use lib.Dec.{ltb}
 use Rattle.offer.specs.Offer.{isFull}
 use Rattle.party.specs.Driving.{isActive}
-use Rattle.refusals.specs.Types.{Party, Control, Idle, Standby, Active, Call, Refusal}
+use Rattle.refusals.specs.Types.{View, Control, Idle, Standby, Active, Act, Call, Refusal}
 use Rattle.refusals.specs.Types.ruling
 use Rattle.refusals.specs.Types.call-of
-use Rattle.effect.specs.Calls.{isKnown, isOn}
+use Rattle.refusals.specs.Types.act-of
+use Rattle.parties.specs.Places.{isFound}
+use Rattle.effect.specs.Calls.{isOn}
+use Rattle.effect.specs.Stands.{sends}
 
 -- "NOPARTY: no such party"
 abbrev pub ofParty : Bool → Refusal → Refusal
@@ -35,32 +38,31 @@ talkRefusal on listen atn another = cond on (cond listen ruling.Role (cond atn r
 abbrev pub standbyRefusal : Bool → Bool → Refusal
 standbyRefusal active sends = cond active (cond sends ruling.Standing ruling.Accepted) ruling.Role
 
--- What each call meets once its party is there, or Accepted. It reads the party p, ATN, whether another party talks, whether p sends a
--- standing command, and whether p is the system party.
-abbrev pub own : Party → Bool → Bool → Bool → Bool → Call → Refusal
-own p atn another sends chief (call-of.Step i) = ruling.Accepted
+-- What a call of a party meets once it is there, or Accepted.
+abbrev pub own : View → Act → Refusal
+own v act-of.Step = ruling.Accepted
 -- "FULL: write with a byte held"
-own p atn another sends chief (call-of.Write i v e) = ofSwitch e (cond (isFull (p .held)) ruling.Full ruling.Accepted)
+own v (act-of.Write x e) = ofSwitch e (cond (isFull (v .party .held)) ruling.Full ruling.Accepted)
 -- "EMPTY: read with no data-in"
-own p atn another sends chief (call-of.Read i) = cond (isFull (p .input)) ruling.Accepted ruling.Empty
-own p atn another sends chief (call-of.PollRegister i v) = ruling.Accepted
-own p atn another sends chief (call-of.ListenOnly i on) = ofSwitch on (listenRefusal (isOn on) (p .role .talk))
-own p atn another sends chief (call-of.TalkOnly i on) = ofSwitch on (talkRefusal (isOn on) (p .role .listen) atn another)
+own v act-of.Read = cond (isFull (v .party .input)) ruling.Accepted ruling.Empty
+own v (act-of.PollRegister x) = ruling.Accepted
+own v (act-of.ListenOnly on) = ofSwitch on (listenRefusal (isOn on) (v .party .role .talk))
+own v (act-of.TalkOnly on) = ofSwitch on (talkRefusal (isOn on) (v .party .role .listen) (v .lines .atn) (isFound (v .talker)))
 -- "ROLE: take control not in standby"
-own p atn another sends chief (call-of.TakeControl i) = cond (inStandby (p .control)) ruling.Accepted ruling.Role
-own p atn another sends chief (call-of.GoToStandby i) = standbyRefusal (isActive p) sends
+own v act-of.TakeControl = cond (inStandby (v .party .control)) ruling.Accepted ruling.Role
+own v act-of.GoToStandby = standbyRefusal (isActive (v .party)) (sends v)
 -- "ROLE: .. clear not by system party"
-own p atn another sends chief (call-of.InterfaceClear i) = cond chief ruling.Accepted ruling.Role
+own v act-of.InterfaceClear = cond (v .chief) ruling.Accepted ruling.Role
 -- "STANDING: .. reset by the sender of a standing command"
-own p atn another sends chief (call-of.Reset i) = cond sends ruling.Standing ruling.Accepted
-own p atn another sends chief (call-of.Drop i) = ruling.Accepted
-own p atn another sends chief call-of.Lines = ruling.Accepted
-own p atn another sends chief call-of.Drivers = ruling.Accepted
-own p atn another sends chief (call-of.SecondRequest i on) = ofSwitch on ruling.Accepted
+own v act-of.Reset = cond (sends v) ruling.Standing ruling.Accepted
+own v act-of.Drop = ruling.Accepted
+own v (act-of.SecondRequest on) = ofSwitch on ruling.Accepted
 
--- "Order: .. 1, values, then 4 to 9."
-abbrev pub judge : Bool → Party → Bool → Bool → Bool → Bool → Call → Refusal
-judge inside p atn another sends chief c = ofParty (isKnown c inside) (own p atn another sends chief c)
+-- "Order: .. 1, values, then 4 to 9." Lines and drivers name no party, and meet nothing.
+abbrev pub judge : View → Call → Refusal
+judge v (call-of.Of i a) = ofParty (v .inside) (own v a)
+judge v call-of.Lines = ruling.Accepted
+judge v call-of.Drivers = ruling.Accepted
 
 -- Has a place a party? There are fifteen places.
 abbrev pub isInside : ℕ → ℕ → Bool

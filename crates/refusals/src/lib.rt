@@ -2,11 +2,12 @@
 ghost use mathlib.Core.Path.{_≡_};
 ghost use mathlib.Core.Bool.{cond};
 ghost use Rattle.refusals.specs.Refusals.{isInside, inStandby, listenRefusal, talkRefusal, standbyRefusal, own, judge};
+use effect::Act;
 use effect::Call;
 use effect::Refusal;
+use effect::View;
 use effect::calls::is_on;
 use party::Control;
-use party::Party;
 use party::Place;
 
 // Has a place a party? There are fifteen places.
@@ -79,60 +80,60 @@ fn standby_refusal(active: bool, sends: bool) -> Refusal
     }
 }
 
-// What a call of a party that is there meets, or Accepted: p, under ATN or not, beside another talker or not, the sender of a standing
-// command or not, the system party or not.
-fn met(c: Call, p: Party, atn: bool, another: bool, sends: bool, chief: bool) -> Refusal
-    ensures { λ r. ⌜ r ≡ own p atn another sends chief c ⌝ }
+// What a call of a party that is there meets, or Accepted.
+fn met(a: Act, v: View) -> Refusal
+    ensures { λ r. ⌜ r ≡ own v a ⌝ }
 {
+    let i = v.place;
+    let st = v.standing;
+    let l = v.lines;
+    let talker = v.talker;
+    let p = v.party;
     let role = p.role;
     let control = p.control;
     let held = p.held;
     let input = p.input;
-    match c {
-        Call::Step(_) => Refusal::Accepted,
-        Call::Write(_, _, e) => when(
+    match a {
+        Act::Step => Refusal::Accepted,
+        Act::Write(_, e) => when(
             1 < e,
             Refusal::BadValue,
             when(held.is_full(), Refusal::Full, Refusal::Accepted),
         ),
-        Call::Read(_) => when(input.is_full(), Refusal::Accepted, Refusal::Empty),
-        Call::PollRegister(_, _) => Refusal::Accepted,
-        Call::ListenOnly(_, on) => when(
+        Act::Read => when(input.is_full(), Refusal::Accepted, Refusal::Empty),
+        Act::PollRegister(_) => Refusal::Accepted,
+        Act::ListenOnly(on) => when(
             1 < on,
             Refusal::BadValue,
             listen_refusal(is_on(on), role.talk),
         ),
-        Call::TalkOnly(_, on) => when(
+        Act::TalkOnly(on) => when(
             1 < on,
             Refusal::BadValue,
-            talk_refusal(is_on(on), role.listen, atn, another),
+            talk_refusal(is_on(on), role.listen, l.atn, talker.is_found()),
         ),
-        Call::TakeControl(_) => when(in_standby(control), Refusal::Accepted, Refusal::Role),
-        Call::GoToStandby(_) => standby_refusal(p.is_active(), sends),
-        Call::InterfaceClear(_) => when(chief, Refusal::Accepted, Refusal::Role),
-        Call::Reset(_) => when(sends, Refusal::Standing, Refusal::Accepted),
-        Call::Drop(_) => Refusal::Accepted,
-        Call::Lines => Refusal::Accepted,
-        Call::Drivers => Refusal::Accepted,
-        Call::SecondRequest(_, on) => when(1 < on, Refusal::BadValue, Refusal::Accepted),
+        Act::TakeControl => when(in_standby(control), Refusal::Accepted, Refusal::Role),
+        Act::GoToStandby => standby_refusal(p.is_active(), st.is_command_of(i)),
+        Act::InterfaceClear => when(v.chief, Refusal::Accepted, Refusal::Role),
+        Act::Reset => when(st.is_command_of(i), Refusal::Standing, Refusal::Accepted),
+        Act::Drop => Refusal::Accepted,
+        Act::SecondRequest(on) => when(1 < on, Refusal::BadValue, Refusal::Accepted),
     }
 }
 
-// The refusal that a call meets, or Accepted. The party that it names is inside the bus or not.
-pub fn judged(
-    c: Call,
-    inside: bool,
-    p: Party,
-    atn: bool,
-    another: bool,
-    sends: bool,
-    chief: bool,
-) -> Refusal
-    ensures { λ r. ⌜ r ≡ judge inside p atn another sends chief c ⌝ }
+// The refusal that a call meets, or Accepted. Lines and drivers name no party, and meet nothing.
+pub fn judged(c: Call, v: View) -> Refusal
+    ensures { λ r. ⌜ r ≡ judge v c ⌝ }
 {
-    if c.is_known(inside) {
-        met(c, p, atn, another, sends, chief)
-    } else {
-        Refusal::NoParty
+    match c {
+        Call::Of(_, a) => {
+            if v.inside {
+                met(a, v)
+            } else {
+                Refusal::NoParty
+            }
+        }
+        Call::Lines => Refusal::Accepted,
+        Call::Drivers => Refusal::Accepted,
     }
 }

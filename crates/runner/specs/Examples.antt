@@ -16,6 +16,7 @@ use Rattle.runner.specs.Types.{Bus}
 use Rattle.runner.specs.Types.ruling
 use Rattle.runner.specs.Types.ev
 use Rattle.runner.specs.Types.call-of
+use Rattle.runner.specs.Types.act-of
 use Rattle.runner.specs.Waiting.{byPlace, longestWaiting, turns}
 use Rattle.steps.specs.Steps.{steps}
 use Rattle.runner.specs.Runner.{turnsOf, runner}
@@ -24,15 +25,15 @@ use Rattle.runner.specs.Lists.{Act, call, run, acted}
 
 -- Of document 01's script the calls before the first step: party 0 talks, party 1 listens, 41 with END is held.
 abbrev before : List Act
-before = call (call-of.TalkOnly (place 0) 1) ∷ call (call-of.ListenOnly (place 1) 1) ∷ call (call-of.Write (place 0) 65 1) ∷ []
+before = call (call-of.Of (place 0) (act-of.TalkOnly 1)) ∷ call (call-of.Of (place 1) (act-of.ListenOnly 1)) ∷ call (call-of.Of (place 0) (act-of.Write 65 1)) ∷ []
 
 abbrev pub after : List Act → Bus
 after xs = acted (λ b. byPlace) (build (5 ∷ 6 ∷ []) (place 0) .bus) xs
 
 -- Party 1 has taken a byte that was then broken off, and 41 waits: it has three turns to go before it is ready.
 abbrev pub slow : List Act
-slow = call (call-of.TalkOnly (place 0) 1) ∷ call (call-of.ListenOnly (place 1) 1) ∷ call (call-of.Write (place 0) 64 0) ∷ run 4
-    ∷ call (call-of.TalkOnly (place 0) 0) ∷ call (call-of.Read (place 1)) ∷ call (call-of.TalkOnly (place 0) 1) ∷ call (call-of.Write (place 0) 65 1) ∷ []
+slow = call (call-of.Of (place 0) (act-of.TalkOnly 1)) ∷ call (call-of.Of (place 1) (act-of.ListenOnly 1)) ∷ call (call-of.Of (place 0) (act-of.Write 64 0)) ∷ run 4
+    ∷ call (call-of.Of (place 0) (act-of.TalkOnly 0)) ∷ call (call-of.Of (place 1) act-of.Read) ∷ call (call-of.Of (place 0) (act-of.TalkOnly 1)) ∷ call (call-of.Of (place 0) (act-of.Write 65 1)) ∷ []
 
 -- How many bytes end in the first t turns of a run.
 abbrev ended : List Act → ℕ → ℕ
@@ -49,7 +50,7 @@ pub record Examples : Type 0 where
   pub fromTheTop : turns (λ x y. ltb y x) 3 7 ≡ (2 ∷ 1 ∷ 0 ∷ 2 ∷ 1 ∷ 0 ∷ 2 ∷ [])
   -- document 01's script with its seven steps as a run of seven turns: the byte has ended, and 41 is read
   pub script : runner byPlace (after before) 7 .counts ≡ (4 ∷ 3 ∷ replicate 13 0)
-  pub scriptEnds : reported (m.call (runner byPlace (after before) 7 .bus) (call-of.Read (place 1))) ≡ 41-is-read
+  pub scriptEnds : reported (m.call (runner byPlace (after before) 7 .bus) (call-of.Of (place 1) act-of.Read)) ≡ 41-is-read
   -- five times n turns are not always enough to end a byte: here the bound's premises hold, n is 2, and the eleventh turn ends it
   pub premises : Offered (after slow) 0 1 65 true
   pub notInFiveRounds : ended slow 10 ≡ 0

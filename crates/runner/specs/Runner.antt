@@ -8,6 +8,7 @@ use lib.Dec.{eqb}
 use lib.ListN.{getD, set, replicate}
 use Rattle.party.specs.Parts.{one}
 use Rattle.parties.specs.Places.{within}
+use Rattle.effect.specs.Words.{actNumber}
 use Rattle.bus.specs.Machine as m
 use Rattle.bus.specs.Delivery.{tally, history}
 use Rattle.steps.specs.Steps.{steps}
@@ -40,20 +41,9 @@ runner tie b t = record {
 
 -- The counts are what the steps say: for each place as many as the run has steps of it.
 abbrev pub isStepOf : ℕ → Call → Bool
-isStepOf k (call-of.Step p) = eqb k (p .0)
-isStepOf k (call-of.Write p v e) = false
-isStepOf k (call-of.Read p) = false
-isStepOf k (call-of.PollRegister p v) = false
-isStepOf k (call-of.ListenOnly p on) = false
-isStepOf k (call-of.TalkOnly p on) = false
-isStepOf k (call-of.TakeControl p) = false
-isStepOf k (call-of.GoToStandby p) = false
-isStepOf k (call-of.InterfaceClear p) = false
-isStepOf k (call-of.Reset p) = false
-isStepOf k (call-of.Drop p) = false
+isStepOf k (call-of.Of p a) = cond (eqb (actNumber a) 1) (eqb k (p .0)) false
 isStepOf k call-of.Lines = false
 isStepOf k call-of.Drivers = false
-isStepOf k (call-of.SecondRequest p on) = false
 
 abbrev pub Counts : Type 0
 Counts = (tie : TieOrder) (b : Bus) (t k : ℕ) → k < 15 → getD (runner tie b t .counts) k 0 ≡ tally (λ x. one (isStepOf k (x .call))) (history b (steps (turnsOf tie b t)))

@@ -17,6 +17,7 @@ pub use Rattle.effect.specs.declared.Refusal.{Refusal}
 pub use Rattle.effect.specs.declared.Refusal.the-variants as ruling
 pub use Rattle.effect.specs.declared.Call.{Call}
 pub use Rattle.effect.specs.declared.Call.the-variants as call-of
+pub use Rattle.effect.specs.declared.Act.the-variants as act-of
 pub use Rattle.effect.specs.declared.Said.{Said}
 pub use Rattle.bus.specs.declared.Bus.{Bus}
 pub use Rattle.bus.specs.declared.Answer.{Answer}

@@ -9,7 +9,7 @@ use Rattle.party.specs.Parts.{withSource}
 use Rattle.party.specs.Driving.{isActive}
 use Rattle.party.specs.Hearing.{heardBy}
 use Rattle.party.specs.Sending.{isPolled, offer, parted}
-use Rattle.source_step.specs.Types.{Place, Party, Source, Sids, Sgns, Sdys, Strs, Slot, Empty, Full, Kind, Lines, Found, Nowhere, At, Standing, Nothing, Byte, After, Effect}
+use Rattle.source_step.specs.Types.{Place, Party, Source, Sids, Sgns, Sdys, Strs, Slot, Empty, Full, Kind, Lines, Found, Nowhere, At, Standing, Nothing, Byte, After, Effect, View}
 use Rattle.source_step.specs.Types.ev
 use Rattle.source_step.specs.Types.after
 use Rattle.effect.specs.Stands.{ofCommand}
@@ -57,5 +57,5 @@ sourceStep Sgns o k l f st i p = offering (isFull o) st p
 sourceStep Sdys o k l f st i p = ready o k l st i p
 sourceStep Strs o k l f st i p = cond (l .ndac) (stay st p) (ended f st p)
 
-abbrev pub sourceEffect : Lines → Found → Standing → Place → Party → Effect
-sourceEffect l f st i p = sourceStep (p .source) (offer (isPolled (l .atn) p) p) (kindOf (isActive p) (isPolled (l .atn) p)) l f st i p
+abbrev pub sourceEffect : View → Effect
+sourceEffect v = let p = v .party in let polled = isPolled (v .lines .atn) p in sourceStep (p .source) (offer polled p) (kindOf (isActive p) polled) (v .lines) (v .talker) (v .standing) (v .place) p

@@ -16,3 +16,4 @@ pub use Rattle.effect.specs.declared.Standing.the-variants.{Nothing, Byte}
 pub use Rattle.effect.specs.declared.After.{After}
 pub use Rattle.effect.specs.declared.After.the-variants as after
 pub use Rattle.effect.specs.declared.Effect.{Effect}
+pub use Rattle.effect.specs.declared.View.{View}

@@ -6,12 +6,12 @@ use effect::After;
 use effect::Effect;
 use effect::Said;
 use effect::Standing;
+use effect::View;
 use event::Event;
 use message::meaning_of;
 use offer::Kind;
 use offer::Slot;
 use parties::Found;
-use parties::Lines;
 use party::Party;
 use party::Place;
 use party::Source;
@@ -40,9 +40,13 @@ fn not_accepted(kind: Kind, v: u8, e: bool, st: Standing, p: Party) -> Effect
 }
 
 // A source in SDYS.
-fn from_sdys(offer: Slot, kind: Kind, l: Lines, st: Standing, i: Place, p: Party) -> Effect
-    ensures { λ r. ⌜ r ≡ ready offer kind l st i p ⌝ }
+fn from_sdys(offer: Slot, kind: Kind, seen: View) -> Effect
+    ensures { λ r. ⌜ r ≡ ready offer kind (seen .lines) (seen .standing) (seen .place) (seen .party) ⌝ }
 {
+    let l = seen.lines;
+    let st = seen.standing;
+    let i = seen.place;
+    let p = seen.party;
     match offer {
         Slot::Empty => Effect::moved(st, p.with_source(Source::Sgns)),
         Slot::Full(v, e) => {
@@ -103,9 +107,13 @@ fn over(talker: Found, st: Standing, p: Party) -> Effect
     }
 }
 
-pub fn source_step(l: Lines, talker: Found, st: Standing, i: Place, p: Party) -> Effect
-    ensures { λ r. ⌜ r ≡ sourceEffect l talker st i p ⌝ }
+pub fn source_step(v: View) -> Effect
+    ensures { λ r. ⌜ r ≡ sourceEffect v ⌝ }
 {
+    let l = v.lines;
+    let talker = v.talker;
+    let st = v.standing;
+    let p = v.party;
     let source = p.source;
     let polled = p.is_polled(l.atn);
     let offer = p.offers(polled);
@@ -117,7 +125,7 @@ pub fn source_step(l: Lines, talker: Found, st: Standing, i: Place, p: Party) ->
         } else {
             Effect::stay(st, p)
         },
-        Source::Sdys => from_sdys(offer, kind, l, st, i, p),
+        Source::Sdys => from_sdys(offer, kind, v),
         Source::Strs => if l.ndac {
             Effect::stay(st, p)
         } else {

@@ -77,7 +77,7 @@ module _ (b : Bus) (I : Inv b) (i : ℕ) (l : i < b .count) where
 
 -- a step of a party that is there is accepted
 call-step : (b : Bus) → Inv b → (i : ℕ) → i < b .count
-    → m.call b (stepOf i) ≡ follow (atnOf b) b i (effect (lines b) (otherTalker (b .count) i (b .parties)) (b .standing) (place i) (here b i))
+    → m.call b (stepOf i) ≡ follow (atnOf b) b i (effect (m.viewAt (place i) (lines b) b))
 call-step b I i l = let s = I .small in rw (lt-ltb i 15 (omega arith), lt-ltb i (b .count) l) refl
 
 -- a step of no party is refused
@@ -86,7 +86,7 @@ no-step b i h = test (ltb i 15) (λ t. rw (t, h) refl) (λ f. rw f refl)
 
 -- a source takes the source step
 pub source-step : (b : Bus) → Inv b → (i : ℕ) → i < b .count → isSource (atnOf b) (here b i) ≡ true
-    → m.call b (stepOf i) ≡ follow (atnOf b) b i (sourceEffect (lines b) (otherTalker (b .count) i (b .parties)) (b .standing) (place i) (here b i))
+    → m.call b (stepOf i) ≡ follow (atnOf b) b i (sourceEffect (m.viewAt (place i) (lines b) b))
 source-step b I i l so = call-step b I i l ∙ rw so refl
 
 -- An acceptor step is followed by settling alone, lets stand what stands, and changes no control.
@@ -112,7 +112,7 @@ Accepts b i = (i < b .count) × (isSource (atnOf b) (here b i) ≡ false)
 
 -- the effect of its step
 abbrev pub acts : Bus → ℕ → Effect
-acts b i = acceptorEffect (lines b) (b .standing) (here b i)
+acts b i = acceptorEffect (m.viewAt (place i) (lines b) b)
 
 module _ (b : Bus) (I : Inv b) (i : ℕ) (A : Accepts b i) where
   calm : Calm (b .standing) (here b i) (acts b i)

@@ -29,10 +29,11 @@ use Rattle.bus.specs.Following.{followed}
 use Rattle.bus.specs.Machine as m
 use Rattle.bus.specs.declared.Bus.{Bus}
 use Rattle.bus.specs.declared.Answer.{Answer}
-use Rattle.bus.specs.Types.{Place, Name, Party, Idle, Active, Source, Sids, Sgns, Sdys, Strs, Acceptor, Aids, Anrs, Acrs, Acds, Awns, Slot, Empty, Full, Kind, Found, Lines, Standing, Nothing, Byte, Call, After, Effect}
+use Rattle.bus.specs.Types.{Place, Name, Party, Idle, Active, Source, Sids, Sgns, Sdys, Strs, Acceptor, Aids, Anrs, Acrs, Acds, Awns, Slot, Empty, Full, Kind, Found, Lines, Standing, Nothing, Byte, Call, After, Effect, View}
 use Rattle.bus.specs.Types.ruling
 use Rattle.bus.specs.Types.after
 use Rattle.bus.specs.Types.call-of
+use Rattle.bus.specs.Types.act-of
 use Rattle.bus.proofs.Built.{placed-at, fits}
 use Rattle.steps.specs.Named.{nameAt, Named}
 
@@ -69,27 +70,27 @@ module _ (p : Party) where
   acceptor-same Acds l st = refl
   acceptor-same Awns l st = cond-elim Same (l .dav) (λ _. refl) (λ _. refl)
 
-  read-same : (s : Slot) (st : Standing) → Same (read s st p)
-  read-same Empty st = refl
-  read-same (Full v e) st = refl
+read-same : (s : Slot) (v : View) → Same (v .party) (read s v)
+read-same Empty v = refl
+read-same (Full x e) v = refl
 
-  effect-same : (l : Lines) (f : Found) (st : Standing) (c : Call) → Same (effectOf l f st p c)
-  effect-same l f st (call-of.Step i) = cond-elim Same (isSource (l .atn) p)
-      (λ _. source-same (p .source) (offer (isPolled (l .atn) p) p) (kindOf (isActive p) (isPolled (l .atn) p)) l f st i)
-      (λ _. acceptor-same (p .acceptor) l st)
-  effect-same l f st (call-of.Write i v e) = refl
-  effect-same l f st (call-of.Read i) = read-same (p .input) st
-  effect-same l f st (call-of.PollRegister i v) = refl
-  effect-same l f st (call-of.ListenOnly i on) = refl
-  effect-same l f st (call-of.TalkOnly i on) = refl
-  effect-same l f st (call-of.TakeControl i) = refl
-  effect-same l f st (call-of.GoToStandby i) = refl
-  effect-same l f st (call-of.InterfaceClear i) = refl
-  effect-same l f st (call-of.Reset i) = cond-elim Same (isActive p) (λ _. refl) (λ _. refl)
-  effect-same l f st (call-of.Drop i) = refl
-  effect-same l f st call-of.Lines = refl
-  effect-same l f st call-of.Drivers = refl
-  effect-same l f st (call-of.SecondRequest i on) = refl
+effect-same : (v : View) (c : Call) → Same (v .party) (effectOf v c)
+effect-same v (call-of.Of i act-of.Step) = let l = v .lines in let p = v .party in cond-elim (Same p) (isSource (l .atn) p)
+    (λ _. source-same p (p .source) (offer (isPolled (l .atn) p) p) (kindOf (isActive p) (isPolled (l .atn) p)) l (v .talker) (v .standing) (v .place))
+    (λ _. acceptor-same p (p .acceptor) l (v .standing))
+effect-same v (call-of.Of i (act-of.Write x e)) = refl
+effect-same v (call-of.Of i act-of.Read) = read-same (v .party .input) v
+effect-same v (call-of.Of i (act-of.PollRegister x)) = refl
+effect-same v (call-of.Of i (act-of.ListenOnly on)) = refl
+effect-same v (call-of.Of i (act-of.TalkOnly on)) = refl
+effect-same v (call-of.Of i act-of.TakeControl) = refl
+effect-same v (call-of.Of i act-of.GoToStandby) = refl
+effect-same v (call-of.Of i act-of.InterfaceClear) = refl
+effect-same v (call-of.Of i act-of.Reset) = cond-elim (Same (v .party)) (isActive (v .party)) (λ _. refl) (λ _. refl)
+effect-same v (call-of.Of i act-of.Drop) = refl
+effect-same v (call-of.Of i (act-of.SecondRequest on)) = refl
+effect-same v call-of.Lines = refl
+effect-same v call-of.Drivers = refl
 
 -- What follows leaves every name.
 module _ (b : Bus) (i : ℕ) (e : Effect) (same : nameOf (e .party) ≡ nameOf (here b i)) where
@@ -115,9 +116,10 @@ call-names : (b : Bus) (c : Call) (j : ℕ) → nameAt (m.call b c .bus) j ≡ n
 call-names b c j =
     let l = lines b in
     let i = placeOf c .0 in
-    let e = effectOf l (otherTalker (b .count) i (b .parties)) (b .standing) (here b i) c in
+    let v = m.viewAt (placeOf c) l b in
+    let e = effectOf v c in
     cond-elim (λ (a : Answer). nameAt (a .bus) j ≡ nameAt b j) (isAccepted (m.refusal l b c))
-    (λ _. followed-same b i e (effect-same (here b i) l (otherTalker (b .count) i (b .parties)) (b .standing) c) (e .after) (l .atn) j)
+    (λ _. followed-same b i e (effect-same v c) (e .after) (l .atn) j)
     (λ _. refl)
 
 run-names : (b : Bus) (cs : List Call) (j : ℕ) → nameAt (m.run b cs) j ≡ nameAt b j

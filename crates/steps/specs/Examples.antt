@@ -7,6 +7,7 @@ use Rattle.parties.specs.Places.{place}
 use Rattle.bus.specs.Types.ev
 use Rattle.bus.specs.Types.ruling
 use Rattle.bus.specs.Types.call-of
+use Rattle.bus.specs.Types.act-of
 use Rattle.bus.specs.Rows.{Run, outcome, expected, ok, moved, says, loses, refused, step, write, listenOnly, drop, clear, standby, run, sends}
 
 -- A controller with nobody beside it. Its command stays held, so that a second write is refused, until the host drops it: the source goes back to SGNS.
@@ -28,7 +29,7 @@ command =
 abbrev pub status : Run
 status =
     run (4 ∷ 5 ∷ []) (
-    (call-of.PollRegister (place 1) 0x01, ok)
+    (call-of.Of (place 1) (act-of.PollRegister 0x01), ok)
     ∷ (clear 0, ok)
     ∷ sends 0x18 (
     (step 1, moved)

@@ -3,131 +3,17 @@ use Rattle.accepted.proofs.effect_of.Statement.{statement}
 use Rattle.accepted.proofs.effect_of.Tie as tie
 
 returns : tie.Need-returns
-returns c =
-    simp (
-      c .stepped .ensures,
-      c .before .before .c .given .1,
-    )
+returns c = simp (c .acted .ensures, c .before .before .c .given .1)
 
 returns-2 : tie.Need-returns-2
-returns-2 c =
-    simp (
-      c .quiet .ensures,
-      c .before .with-held .ensures,
-      c .before .before .is-on .ensures,
-      c .before .before .before .before .c2 .given .1,
-    )
+returns-2 c = simp (c .does .ensures, c .before .say .ensures, c .before .before .byte .ensures, c .before .before .before .enum-told .given .1)
 
 returns-3 : tie.Need-returns-3
-returns-3 c =
-    simp (
-      c .taken-out .ensures,
-      c .before .enum-told .given .1,
-    )
-
-returns-4 : tie.Need-returns-4
-returns-4 c =
-    simp (
-      c .asking .ensures,
-      c .before .with-saved .ensures,
-      c .before .before .before .c3 .given .1,
-    )
-
-returns-5 : tie.Need-returns-5
-returns-5 c =
-    simp (
-      c .listening .ensures,
-      c .before .is-on2 .ensures,
-      c .before .before .before .c4 .given .1,
-    )
-
-returns-6 : tie.Need-returns-6
-returns-6 c =
-    simp (
-      c .quiet2 .ensures,
-      c .before .with-role .ensures,
-      c .before .before .with-flags .ensures,
-      c .before .before .before .is-on3 .ensures,
-      c .before .before .before .before .before .c5 .given .1,
-    )
-
-returns-7 : tie.Need-returns-7
-returns-7 c =
-    simp (
-      c .in-control .ensures,
-      c .before .enum-told2 .given .1,
-    )
-
-returns-8 : tie.Need-returns-8
-returns-8 c =
-    simp (
-      c .in-control2 .ensures,
-      c .before .enum-told3 .given .1,
-    )
-
-returns-9 : tie.Need-returns-9
-returns-9 c =
-    simp (
-      c .then .ensures,
-      c .before .quiet3 .ensures,
-      c .before .before .change-control .ensures,
-      c .before .before .before .cleared .ensures,
-      c .before .before .before .before .enum-told4 .given .1,
-    )
-
-returns-10 : tie.Need-returns-10
-returns-10 c =
-    simp (
-      c .reset .ensures,
-      c .before .enum-told5 .given .1,
-    )
-
-returns-11 : tie.Need-returns-11
-returns-11 c =
-    simp (
-      c .quiet4 .ensures,
-      c .before .with-held2 .ensures,
-      c .before .before .held-bytes .ensures .0,
-      c .before .before .before .enum-told6 .given .1,
-    )
-
-returns-12 : tie.Need-returns-12
-returns-12 c =
-    simp (
-      c .does .ensures,
-      c .before .say .ensures,
-      c .before .before .byte .ensures,
-      c .before .before .before .enum-told7 .given .1,
-    )
-
-returns-13 : tie.Need-returns-13
-returns-13 c =
-    simp (
-      c .quiet5 .ensures,
-      c .before .enum-told8 .given .1,
-    )
-
-returns-14 : tie.Need-returns-14
-returns-14 c =
-    simp (
-      c .asking2 .ensures,
-      c .before .with-rsv2 .ensures,
-      c .before .before .is-on4 .ensures,
-      c .before .before .before .before .c6 .given .1,
-    )
+returns-3 c = simp (c .quiet .ensures, c .before .enum-told2 .given .1)
 
 pub effect-of-spec : {M : Type 1} → statement M
 effect-of-spec =
     tie.close
     (tie.spec
     (λ c. search needs) (λ c κs. search needs) (λ c. search needs) (λ c κs. search needs) (λ c κs. search needs)
-    (λ c κs. search needs) (λ c. search needs) (λ c κs. search needs) (λ c. search needs) (λ c κs. search needs)
-    (λ c κs. search needs) (λ c. search needs) (λ c κs. search needs) (λ c κs. search needs) (λ c. search needs)
-    (λ c κs. search needs) (λ c κs. search needs) (λ c κs. search needs) (λ c κs. search needs) (λ c. search needs)
-    (λ c κs. search needs) (λ c. search needs) (λ c κs. search needs) (λ c. search needs) (λ c κs. search needs)
-    (λ c κs. search needs) (λ c κs. search needs) (λ c κs. search needs) (λ c. search needs) (λ c κs. search needs)
-    (λ c. search needs) (λ c κs. search needs) (λ c κs. search needs) (λ c κs. search needs) (λ c. search needs)
-    (λ c κs. search needs) (λ c κs. search needs) (λ c κs. search needs) (λ c. search needs) (λ c κs. search needs)
-    (λ c. search needs) (λ c κs. search needs) (λ c κs. search needs) (λ c κs. search needs) returns returns-2
-    returns-3 returns-4 returns-5 returns-6 returns-7 returns-8 returns-9 returns-10 returns-11 returns-12 returns-13
-    returns-14)
+    (λ c κs. search needs) (λ c. search needs) (λ c κs. search needs) returns returns-2 returns-3)

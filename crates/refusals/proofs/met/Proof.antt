@@ -12,7 +12,7 @@ returns-2 c =
       c .when2 .ensures,
       c .before .when .ensures,
       c .before .before .is-full .ensures,
-      c .before .before .before .before .c .given .1,
+      c .before .before .before .before .a .given .1,
     )
 
 returns-3 : tie.Need-returns-3
@@ -33,7 +33,7 @@ returns-5 c =
       c .when4 .ensures,
       c .before .listen-refusal .ensures,
       c .before .before .is-on .ensures,
-      c .before .before .before .before .c2 .given .1,
+      c .before .before .before .before .a2 .given .1,
     )
 
 returns-6 : tie.Need-returns-6
@@ -41,8 +41,9 @@ returns-6 c =
     simp (
       c .when5 .ensures,
       c .before .talk-refusal .ensures,
-      c .before .before .is-on2 .ensures,
-      c .before .before .before .before .c3 .given .1,
+      c .before .before .is-found .ensures,
+      c .before .before .before .is-on2 .ensures,
+      c .before .before .before .before .before .a3 .given .1,
     )
 
 returns-7 : tie.Need-returns-7
@@ -57,8 +58,9 @@ returns-8 : tie.Need-returns-8
 returns-8 c =
     simp (
       c .standby-refusal .ensures,
-      c .before .is-active .ensures,
-      c .before .before .enum-told5 .given .1,
+      c .before .is-command-of .ensures,
+      c .before .before .is-active .ensures,
+      c .before .before .before .enum-told5 .given .1,
     )
 
 returns-9 : tie.Need-returns-9
@@ -72,7 +74,8 @@ returns-10 : tie.Need-returns-10
 returns-10 c =
     simp (
       c .when8 .ensures,
-      c .before .enum-told7 .given .1,
+      c .before .is-command-of2 .ensures,
+      c .before .before .enum-told7 .given .1,
     )
 
 returns-11 : tie.Need-returns-11
@@ -81,17 +84,9 @@ returns-11 c =
 
 returns-12 : tie.Need-returns-12
 returns-12 c =
-    simp (c .enum-told9 .given .1)
-
-returns-13 : tie.Need-returns-13
-returns-13 c =
-    simp (c .enum-told10 .given .1)
-
-returns-14 : tie.Need-returns-14
-returns-14 c =
     simp (
       c .when9 .ensures,
-      c .before .before .c4 .given .1,
+      c .before .before .a4 .given .1,
     )
 
 pub met-spec : {M : Type 1} → statement M
@@ -101,8 +96,8 @@ met-spec =
     (λ c. search needs) (λ c. search needs) (λ c κs. search needs) (λ c κs. search needs) (λ c κs. search needs)
     (λ c. search needs) (λ c κs. search needs) (λ c κs. search needs) (λ c. search needs) (λ c. search needs)
     (λ c κs. search needs) (λ c κs. search needs) (λ c κs. search needs) (λ c. search needs) (λ c κs. search needs)
-    (λ c κs. search needs) (λ c κs. search needs) (λ c. search needs) (λ c κs. search needs) (λ c κs. search needs)
-    (λ c. search needs) (λ c κs. search needs) (λ c κs. search needs) (λ c. search needs) (λ c κs. search needs)
-    (λ c. search needs) (λ c κs. search needs) (λ c. search needs) (λ c. search needs) (λ c. search needs)
-    (λ c. search needs) (λ c κs. search needs) returns returns-2 returns-3 returns-4 returns-5 returns-6 returns-7
-    returns-8 returns-9 returns-10 returns-11 returns-12 returns-13 returns-14)
+    (λ c κs. search needs) (λ c κs. search needs) (λ c κs. search needs) (λ c. search needs) (λ c κs. search needs)
+    (λ c κs. search needs) (λ c. search needs) (λ c κs. search needs) (λ c κs. search needs) (λ c κs. search needs)
+    (λ c. search needs) (λ c κs. search needs) (λ c. search needs) (λ c κs. search needs) (λ c κs. search needs)
+    (λ c. search needs) (λ c. search needs) (λ c κs. search needs) returns returns-2 returns-3 returns-4 returns-5
+    returns-6 returns-7 returns-8 returns-9 returns-10 returns-11 returns-12)

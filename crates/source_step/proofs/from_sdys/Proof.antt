@@ -1,3 +1,4 @@
+use mathlib.Core.Path.{refl}
 use borrow.Author.Needs.{needs}
 use Rattle.source_step.proofs.from_sdys.Statement.{statement}
 use Rattle.source_step.proofs.from_sdys.Tie as tie
@@ -20,21 +21,21 @@ returns-2 c =
 
 returns-3 : tie.Need-returns-3
 returns-3 c =
-    simp (
+    rw (
       c .put-up .ensures,
       c .before .if2 .taken,
       c .before .before .if1 .left,
       c .before .before .before .before .offer .given .1,
-    )
+    ) refl
 
 returns-4 : tie.Need-returns-4
 returns-4 c =
-    simp (
+    rw (
       c .not-accepted .ensures,
       c .before .if2 .left,
       c .before .before .if1 .left,
       c .before .before .before .before .offer .given .1,
-    )
+    ) refl
 
 pub from-sdys-spec : {M : Type 1} → statement M
 from-sdys-spec =

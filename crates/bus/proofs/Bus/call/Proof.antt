@@ -23,31 +23,30 @@ heard v =
     v .told .ensures ∙ rw (v .before .has-end .ensures, v .before .before .sweep .ensures) (told-scan (a .self .count) (a .self .parties) z (w .before .slot .result) (hasEnd (a .self .standing)))
 
 -- The refusal is the machine's: what was read at the slot is what the machine reads at the place.
-ruled : (j : tie.After-judged) → let a = j .before .before .before .before .before .before .before .before .before .before .before .before .before .before .before .args in j .judged .result ≡ refusal (lines (a .self)) (a .self) (a .c)
+ruled : (j : tie.After-judged) → let a = j .before .before .before .before .before .before .before .before .before .before .before .before .before .args in j .judged .result ≡ refusal (lines (a .self)) (a .self) (a .c)
 ruled j =
     let f = j .before .before .before in
-    let v = f .before .before .before .before .before in
+    let v = f .before .before .before in
     let w = v .before .before .before .before .before in
     let a = w .before .before .args in
     rw (
       j .judged .ensures,
-      f .before .before .is-inside .ensures,
-      f .before .is-command-of .ensures,
-      f .is-found .ensures,
+      f .is-inside .ensures,
       heard v,
       w .slot .ensures .0,
       w .before .place .ensures,
-    ) (judge-seat (a .self) (placeOf (a .c) .0) (a .c))
+    ) (judge-seat (a .self) (placeOf (a .c)) (a .c))
 
 returns : tie.Need-returns
 returns c =
     let j = c .before .before .before .before in
-    let v = j .before .before .before .before .before .before .before .before in
+    let v = j .before .before .before .before .before .before in
     let w = v .before .before .before .before .before in
     let a = w .before .before .args in
     let ok : isAccepted (refusal (lines (a .self)) (a .self) (a .c)) ≡ true = ap isAccepted (sym (ruled j)) ∙ sym (c .before .before .before .is-accepted .ensures) ∙ c .before .before .if1 .taken in
     c .follow .ensures ∙ rw (
       c .before .effect-of .ensures,
+      j .before .before .before .is-inside .ensures,
       heard v,
       w .slot .ensures .0,
       w .before .place .ensures,
@@ -67,5 +66,4 @@ call-spec =
     (tie.spec
     (λ c κs. search needs) (λ c κs. search needs) (λ c κs. search needs) (λ c κs. search needs) (λ c κs. search needs)
     (λ c. search needs) (λ c. search needs) (λ c κs. search needs) (λ c κs. search needs) (λ c κs. search needs)
-    (λ c κs. search needs) (λ c κs. search needs) (λ c κs. search needs) (λ c κs. search needs) (λ c κs. search needs)
-    returns returns-2)
+    (λ c κs. search needs) (λ c κs. search needs) (λ c κs. search needs) returns returns-2)
