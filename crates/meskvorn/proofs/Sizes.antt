@@ -27,7 +27,7 @@ use Rattle.bus.specs.Following.{followed}
 use Rattle.bus.specs.Drivers.{drivers}
 use Rattle.bus.specs.Machine.{viewAt, call, refusal, accepted, run}
 use Rattle.runner.specs.Waiting.{byPlace}
-use Rattle.steps.specs.Steps.{steps}
+use Rattle.turn_laws.specs.Steps.{steps}
 use Rattle.runner.specs.Runner.{turnsOf, runner}
 use Rattle.orders.specs.Orders.{orderOf, obey, buildFrom, countUp}
 use Rattle.orders.specs.declared.Order.{Order}

@@ -26,7 +26,7 @@ use Rattle.runner.specs.Types.ev
 use Rattle.runner.specs.Types.call-of
 use Rattle.runner.specs.Waiting.{TieOrder, byPlace}
 use Rattle.runner.specs.RoundRobin.{Orders, inOrder}
-use Rattle.steps.specs.Steps.{stepOf, steps}
+use Rattle.turn_laws.specs.Steps.{stepOf, steps}
 use Rattle.runner.specs.Runner.{turnsOf}
 use Rattle.runner.specs.Bound.{Offered, EndsWithin, EndsSoon, Bound, BoundByPlace}
 use Rattle.runner.proofs.Members.{member}

@@ -30,8 +30,8 @@ use Rattle.bus.proofs.EachCall.{call-good}
 use Rattle.bus.proofs.Reached.{one-source}
 use Rattle.runner.specs.Types.{Party, Source, Sids, Sgns, Sdys, Strs, Aids, Anrs, Empty, Full, Data, Standing, Nothing, Byte, Bus, Said, Answer, Call}
 use Rattle.runner.specs.Types.ev
-use Rattle.steps.specs.Steps.{stepOf}
-use Rattle.steps.proofs.Local.{local, touch-local, set-here, local-other, local-same, local-atn, source-step, Accepts, acts, atn-kept, standing-kept, count-kept, other-kept, own-next, event-of, broken-of, inv-kept}
+use Rattle.turn_laws.specs.Steps.{stepOf}
+use Rattle.turn_laws.proofs.Local.{local, touch-local, set-here, local-other, local-same, local-atn, source-step, Accepts, acts, atn-kept, standing-kept, count-kept, other-kept, own-next, event-of, broken-of, inv-kept}
 use Rattle.runner.proofs.Ranks.{rank, left, tick, tick-rank, tick-part, tick-acceptor, tick-input, tock-left, tock-event, no-rank-no-nrfd, none-left-no-ndac, ready-holds-ndac, dav-off}
 
 -- a source keeps its state when it settles

@@ -15,7 +15,7 @@ use Rattle.runner.specs.Types.ruling
 use Rattle.runner.specs.Types.ev
 use Rattle.runner.specs.Waiting.{TieOrder, byPlace}
 use Rattle.runner.specs.RoundRobin.{Orders}
-use Rattle.steps.specs.Steps.{stepOf, steps}
+use Rattle.turn_laws.specs.Steps.{stepOf, steps}
 use Rattle.runner.specs.Runner.{turnsOf}
 
 -- Party p talks, with the byte v, END e, held, and party w listens. That nobody else talks need not be asked: on these buses nobody does.

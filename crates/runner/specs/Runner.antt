@@ -11,7 +11,7 @@ use Rattle.parties.specs.Places.{within}
 use Rattle.effect.specs.Words.{actNumber}
 use Rattle.bus.specs.Machine as m
 use Rattle.bus.specs.Delivery.{tally, history}
-use Rattle.steps.specs.Steps.{steps}
+use Rattle.turn_laws.specs.Steps.{steps}
 use Rattle.runner.specs.Types.{Bus, Call, Refusal, Given}
 use Rattle.runner.specs.Types.ruling
 use Rattle.runner.specs.Types.call-of

@@ -19,8 +19,8 @@ use Rattle.bus.specs.declared.Bus.{Bus}
 use Rattle.bus.specs.Types.{Call}
 use Rattle.bus.specs.Record.{here}
 use Rattle.bus.specs.Delivery.{moment, busAt, answerAt}
-use Rattle.polls.specs.Requests.{polledOn, requestAt, polled, StatAt, AsksAt, TouchesAt, Left, NoneBetween}
-use Rattle.polls.proofs.Serving.{Served, Stat, Puts}
+use Rattle.request_laws.specs.Requests.{polledOn, requestAt, polled, StatAt, AsksAt, TouchesAt, Left, NoneBetween}
+use Rattle.request_laws.proofs.Serving.{Served, Stat, Puts}
 
 -- what holds up to k and at the call after it holds up to that
 up-to : (P : ℕ → Type 0) (r k : ℕ) → ((j : ℕ) → r < j → j ≤ k → P j) → P (suc k) → (j : ℕ) → r < j → j ≤ suc k → P j

@@ -15,9 +15,9 @@ use Rattle.bus.specs.Types.{Call}
 use Rattle.bus.specs.Types.call-of
 use Rattle.bus.specs.Types.act-of
 use Rattle.bus.specs.Delivery.{moment, answerAt}
-use Rattle.polls.specs.Requests.{requestAt, polled, Poll, AsksAt, Left, NoneBetween}
-use Rattle.polls.specs.Examples.{bus, calls, Speaks}
-use Rattle.polls.proofs.Asked.{isStat}
+use Rattle.request_laws.specs.Requests.{requestAt, polled, Poll, AsksAt, Left, NoneBetween}
+use Rattle.request_laws.specs.Examples.{bus, calls, Speaks}
+use Rattle.request_laws.proofs.Asked.{isStat}
 
 -- what was looked at from a on, n times
 abbrev looked : ℕ → ℕ → (ℕ → Bool) → Bool

@@ -16,7 +16,7 @@ use Rattle.bus.specs.declared.Answer.{Answer}
 use Rattle.bus.specs.Types.{Place, Name, Sdys, Full, Call}
 use Rattle.bus.specs.Types.ev
 use Rattle.bus.specs.Types.ruling
-use Rattle.steps.specs.Steps.{stepOf, steps}
+use Rattle.turn_laws.specs.Steps.{stepOf, steps}
 
 -- Party p is a source in SDYS with the byte v, END e, on offer, and there is no acceptor: nobody drives NRFD or NDAC.
 pub record Alone (b : Bus) (p v : ℕ) (e : Bool) : Type 0 where

@@ -1,8 +1,8 @@
--- The machine computes the examples of what is kept.
+-- The machine computes the examples of the second request bit.
 -- Assumes nothing.
 use mathlib.Core.Path.{refl}
 use Rattle.message.specs.Meaning.{meaning, sevenBits, named}
-use Rattle.steps.specs.Examples.{Examples}
+use Rattle.request_laws.specs.Examples.{Examples}
 
 pub examples : Examples
 unfolding meaning sevenBits named

@@ -13,7 +13,7 @@ use Rattle.bus.specs.Types.ev
 use Rattle.bus.specs.Types.call-of
 use Rattle.bus.specs.Types.act-of
 use Rattle.bus.specs.Rows.{Report, Run, outcome, expected, ok, moved, says, refused, step, read, listenOnly, clear, standby, run, sends}
-use Rattle.polls.specs.Requests.{StatAt, Left, First}
+use Rattle.request_laws.specs.Requests.{StatAt, Left, First}
 
 abbrev request : ℕ → Call
 request on = call-of.Of (place 1) (act-of.SecondRequest on)

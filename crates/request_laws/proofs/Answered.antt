@@ -26,9 +26,9 @@ use Rattle.bus.proofs.Invariant.{Inv}
 use Rattle.bus.proofs.Built.{built-inv}
 use Rattle.bus.proofs.EachCall.{call-good, linked}
 use Rattle.runner.specs.Lists.{expanded}
-use Rattle.polls.specs.Requests.{requestAt, polled, Poll, StatAt, bit64, AsksAt, Left, NoneBetween, First, Waits, Answered, RequestsAnswered, RequestsAnsweredWithRuns}
-use Rattle.polls.proofs.Serving.{Served, call-served}
-use Rattle.polls.proofs.Phases.{stat, stat-bit, Phase, asking, begun, first, over, phase}
+use Rattle.request_laws.specs.Requests.{requestAt, polled, Poll, StatAt, bit64, AsksAt, Left, NoneBetween, First, Waits, Answered, RequestsAnswered, RequestsAnsweredWithRuns}
+use Rattle.request_laws.proofs.Serving.{Served, call-served}
+use Rattle.request_laws.proofs.Phases.{stat, stat-bit, Phase, asking, begun, first, over, phase}
 
 module _ (b : Bus) (cs : List Call) (p : ℕ)
     (G : (k : ℕ) → k < length cs → Served (busAt b cs k) (moment b cs k .call) (answerAt b cs k))

@@ -31,9 +31,9 @@ use Rattle.bus.specs.declared.Answer.{Answer}
 use Rattle.bus.specs.Types.{Party, Source, Sids, Sgns, Sdys, Strs, Acceptor, Aids, Anrs, Acrs, Acds, Awns, Slot, Empty, Full, Kind, Command, Data, Status, Event, Lines, Found, Standing, Nothing, Byte, Said, After, Effect}
 use Rattle.bus.specs.Types.ev
 use Rattle.bus.specs.Types.after
-use Rattle.steps.specs.Steps.{stepOf, steps}
-use Rattle.steps.specs.Noacc.{Alone, kept, Keeps, KeepsByte}
-use Rattle.steps.proofs.Local.{local, touch-local, no-step, source-step, as-local, event-of}
+use Rattle.turn_laws.specs.Steps.{stepOf, steps}
+use Rattle.turn_laws.specs.Noacc.{Alone, kept, Keeps, KeepsByte}
+use Rattle.turn_laws.proofs.Local.{local, touch-local, no-step, source-step, as-local, event-of}
 
 -- who drives neither NRFD nor NDAC takes no part
 in-aids : (a : Acceptor) → nrfdAt a ≡ false → ndacAt a ≡ false → a ≡ Aids

@@ -35,7 +35,7 @@ use Rattle.bus.specs.Types.after
 use Rattle.bus.specs.Types.call-of
 use Rattle.bus.specs.Types.act-of
 use Rattle.bus.proofs.Built.{placed-at, fits}
-use Rattle.steps.specs.Named.{nameAt, Named}
+use Rattle.turn_laws.specs.Named.{nameAt, Named}
 
 abbrev nameOf : Party → Name
 nameOf p = p .role .name

@@ -42,8 +42,8 @@ use Rattle.bus.specs.Types.ruling
 use Rattle.bus.specs.Types.after
 use Rattle.bus.specs.Types.call-of
 use Rattle.bus.specs.Types.act-of
-use Rattle.polls.specs.Requests.{polledOn}
-use Rattle.polls.proofs.Asked.{isStat, asked, Fair, Reports, Turn, silent, reports, step-turn, Leaves, leaves}
+use Rattle.request_laws.specs.Requests.{polledOn}
+use Rattle.request_laws.proofs.Asked.{isStat, asked, Fair, Reports, Turn, silent, reports, step-turn, Leaves, leaves}
 
 -- every party has settled with the request q that the call left it
 abbrev Settles : Bus → Bus → (ℕ → Request) → Type 0

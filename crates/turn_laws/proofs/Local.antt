@@ -34,7 +34,7 @@ use Rattle.bus.specs.declared.Answer.{Answer}
 use Rattle.bus.specs.Types.{Party, Acceptor, Aids, Anrs, Acrs, Acds, Awns, Lines, Standing, Nothing, Byte, Effect, Said}
 use Rattle.bus.specs.Types.after
 use Rattle.bus.specs.Types.ruling
-use Rattle.steps.specs.Steps.{stepOf}
+use Rattle.turn_laws.specs.Steps.{stepOf}
 
 each-set : (n : ℕ) (f : Party → Party) (ps : List Party) (i : ℕ) (q : Party) → i < n → ((j : ℕ) → f (at ps j) ≡ at ps j) → each n f (set ps i q) ≡ set ps i (f q)
 each-set zero f ps i q l h = absurd (not-suc-le-zero l)

@@ -1,8 +1,8 @@
--- The machine computes the examples of the second request bit.
+-- The machine computes the examples of what is kept.
 -- Assumes nothing.
 use mathlib.Core.Path.{refl}
 use Rattle.message.specs.Meaning.{meaning, sevenBits, named}
-use Rattle.polls.specs.Examples.{Examples}
+use Rattle.turn_laws.specs.Examples.{Examples}
 
 pub examples : Examples
 unfolding meaning sevenBits named
