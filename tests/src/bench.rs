@@ -6,12 +6,12 @@ use std::time::{Duration, Instant};
 
 use meskvorn::Bus;
 
-use crate::model::Bus as Model;
-use crate::product::Product;
-use crate::script::{
+use crate::compare::product::Product;
+use crate::compare::subject::Subject;
+use crate::model::script::{
     self, record, Call, Record, BUILD, CLEAR, LISTEN, LONGEST, READ, RECORD, STEP, TALK, WRITE,
 };
-use crate::subject::Subject;
+use crate::model::Bus as Model;
 
 /// What a real bus carries.
 const REAL_BYTES_PER_SECOND: f64 = 1_000_000.0;
@@ -162,7 +162,11 @@ fn step_row(parties: u8) {
 
 /// Prints the tables.
 pub fn run() {
-    println!("| parties | calls a byte | library, million records a second | model, the same | time against the model | bytes a second | of a real bus | single calls, million a second | the same with runs |");
+    println!(
+        "| parties | calls a byte | library, million records a second | model, the same \
+        | time against the model | bytes a second | of a real bus | single calls, million a second \
+        | the same with runs |"
+    );
     println!("|---|---|---|---|---|---|---|---|---|");
     for parties in [2, 5, 15] {
         row(&traffic(parties));

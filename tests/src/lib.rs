@@ -1,33 +1,8 @@
-//! A second model of documents 01 and 02, and the driver that compares it with a subject.
+//! A second model of documents 01 and 02, and what compares it with a subject.
 
-pub mod asked;
 pub mod bench;
-pub mod bound;
-pub mod builds;
-pub mod codes;
 pub mod compare;
-pub mod compose;
-pub mod driven;
-pub mod edges;
-pub mod guided;
-pub mod hearing;
-pub mod holders;
 pub mod ledger;
-pub mod list;
-pub mod marks;
+pub mod lists;
 pub mod model;
-pub mod plan;
-pub mod polls;
-pub mod product;
-pub mod racks;
-pub mod random;
-pub mod run;
-pub mod script;
-pub mod shrink;
-pub mod starts;
-pub mod subject;
-pub mod systematic;
-pub mod tally;
-pub mod walk;
-pub mod words;
 pub mod wrong;

@@ -9,9 +9,9 @@ use std::process::ExitCode;
 use std::sync::atomic::{AtomicBool, Ordering};
 
 use meskvorn_tests::bench;
-use meskvorn_tests::product::Product;
-use meskvorn_tests::run;
-use meskvorn_tests::subject::Subject;
+use meskvorn_tests::compare::product::Product;
+use meskvorn_tests::compare::subject::Subject;
+use meskvorn_tests::compare::{vectors, whole_run};
 
 const SEED: u64 = 488;
 const GATE_RECORDS: u64 = 20_000_000;
@@ -41,14 +41,14 @@ fn long(millions: &str, seed: Option<&str>) -> bool {
     let seed = seed.map_or(Ok(SEED), str::parse);
     match (millions.parse::<u64>(), seed) {
         (Ok(millions), Ok(seed)) => {
-            run::random_run(subject().as_mut(), seed, millions.saturating_mul(1_000_000))
+            whole_run::run(subject().as_mut(), seed, millions.saturating_mul(1_000_000))
         }
         _ => usage(),
     }
 }
 
-fn vectors(folder: &str) -> bool {
-    run::vectors(subject().as_mut(), Path::new(folder)).unwrap_or_else(|error| {
+fn vectors_of(folder: &str) -> bool {
+    vectors::run(subject().as_mut(), Path::new(folder)).unwrap_or_else(|error| {
         eprintln!("{folder}: {error}");
         false
     })
@@ -59,10 +59,10 @@ fn main() -> ExitCode {
     let arguments: Vec<String> = std::env::args().skip(1).collect();
     let arguments: Vec<&str> = arguments.iter().map(String::as_str).collect();
     let good = match arguments[..] {
-        [] => run::random_run(subject().as_mut(), SEED, GATE_RECORDS),
+        [] => whole_run::run(subject().as_mut(), SEED, GATE_RECORDS),
         ["long", millions] => long(millions, None),
         ["long", millions, seed] => long(millions, Some(seed)),
-        ["vectors", folder] => vectors(folder),
+        ["vectors", folder] => vectors_of(folder),
         ["bench"] => {
             bench::run();
             true

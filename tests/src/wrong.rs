@@ -1,24 +1,42 @@
-//! Machines with one mistake each, for testing the tests.
+//! Wrong machines, each with one mistake, for testing the tests.
 
 mod builds;
 mod drivers;
-mod faults;
+mod machine;
 mod noacc;
-mod requests;
 mod runs;
+mod second_requests;
 mod secondaries;
 
 pub use builds::{BuildFault, BUILD_FAULTS};
 pub use drivers::{DriversFault, Shows, DRIVERS_FAULTS};
-pub use faults::{Fault, FAULTS};
-pub use requests::REQUEST_FAULTS;
+pub use machine::MACHINE_FAULTS;
 pub use runs::{RunFault, WrongRun, RUN_FAULTS};
+pub use second_requests::REQUEST_FAULTS;
 pub use secondaries::SECONDARY_FAULTS;
 
-use crate::list;
-use crate::model::{Answer, Bus, Drivers, Name, Turns};
-use crate::script::{self, Call, Record, STEP};
-use crate::subject::{like_lines_by, try_run_by, Subject};
+use crate::compare::subject::{like_lines_by, try_run_by, Subject};
+use crate::lists::pieces;
+use crate::model::script::{self, Call, Record, STEP};
+use crate::model::{Answer, Bus, Drivers, Name, Party, Turns};
+
+/// Takes the bus to alter, the bus before the call, the call, and the answer to alter.
+pub type Fault = fn(&mut Bus, &Bus, Record, &mut Answer);
+
+/// An accepted call of this operation.
+fn is(call: Record, answer: &Answer, operation: u8) -> bool {
+    call[2] == operation && answer.accepted()
+}
+
+/// The party that the call names, for altering.
+fn actor(bus: &mut Bus, call: Record) -> &mut Party {
+    &mut bus.parties[usize::from(call[3])]
+}
+
+/// The same as it was before the call.
+fn was(before: &Bus, call: Record) -> &Party {
+    &before.parties[usize::from(call[3])]
+}
 
 /// The model, whose bus and answer a fault alters after each call, or whose build or call for
 /// drivers is wrong.
@@ -57,7 +75,10 @@ impl Wrong {
 
     /// The machine with the fault of that name.
     pub fn named(name: &str) -> Wrong {
-        let mut faults = FAULTS.iter().chain(SECONDARY_FAULTS).chain(REQUEST_FAULTS);
+        let mut faults = MACHINE_FAULTS
+            .iter()
+            .chain(SECONDARY_FAULTS)
+            .chain(REQUEST_FAULTS);
         let found = faults.find(|(known, _)| *known == name);
         Wrong::new(found.expect("a known fault").1)
     }
@@ -105,7 +126,7 @@ impl Subject for Wrong {
     }
 
     fn build_extended(&mut self, names: &[Name], system: u8) -> Answer {
-        let (build, record) = (self.build, list::build_of_named(system));
+        let (build, record) = (self.build, pieces::build_of_named(system));
         faulty(&mut self.bus, self.fault, record, |bus| {
             build(bus, names, system)
         })

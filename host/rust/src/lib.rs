@@ -1,4 +1,5 @@
-//! The GPIB bus of document 01 for Rust programs. The calls run in the proved library, which `rt staticlib meskvorn` writes.
+//! The GPIB bus of document 01 for Rust programs. The calls run in the proved library, which
+//! `rt staticlib meskvorn` writes.
 
 mod answer;
 mod drivers;
@@ -69,7 +70,8 @@ impl Bus {
         rows: [[0; ROW]; 16],
     };
 
-    /// Party i gets `addresses[i]`; `system` is the system party. A refused build gives the bus of no parties.
+    /// Party i gets `addresses[i]`; `system` is the system party. A refused build gives the bus of no
+    /// parties.
     pub fn build(addresses: &[u8], system: u8) -> (Bus, Answer) {
         let mut bus = Bus::NO_PARTIES;
         let answer = bus.rebuild(addresses, system);
@@ -85,7 +87,8 @@ impl Bus {
 
     /// The same over a bus that is there.
     pub fn rebuild(&mut self, addresses: &[u8], system: u8) -> Answer {
-        // The rows are this bus's own, and the addresses are lent for the call, with the length that they have.
+        // SAFETY: the rows are this bus's own, and the addresses are lent for the call, with the length
+        // that they have.
         let packed = unsafe {
             meskvorn_build(
                 self.rows.as_mut_ptr(),
@@ -101,7 +104,8 @@ impl Bus {
     pub fn rebuild_extended(&mut self, names: &[Name], system: u8) -> Answer {
         let addresses: Vec<u8> = names.iter().map(|name| name.primary).collect();
         let secondaries: Vec<u8> = names.iter().map(Name::secondary_byte).collect();
-        // The rows are this bus's own, and both lists are lent for the call, with the lengths that they have.
+        // SAFETY: the rows are this bus's own, and both lists are lent for the call, with the lengths
+        // that they have.
         let packed = unsafe {
             meskvorn_build_extended(
                 self.rows.as_mut_ptr(),
@@ -117,13 +121,13 @@ impl Bus {
 
     /// What a build named the party; None if there is no such party.
     pub fn name(&self, party: u8) -> Option<Name> {
-        // The rows are this bus's own, and are only read.
+        // SAFETY: the rows are this bus's own, and are only read.
         Name::of(unsafe { meskvorn_name(self.rows.as_ptr(), party) })
     }
 
     /// An operation by its number, with any arguments. A number that is no [`Operation`] is refused.
     pub fn call(&mut self, operation: u8, party: u8, value: u8, extra: u8) -> Answer {
-        // The rows are this bus's own.
+        // SAFETY: the rows are this bus's own.
         Answer::of(unsafe { meskvorn_call(self.rows.as_mut_ptr(), operation, party, value, extra) })
     }
 
@@ -136,11 +140,11 @@ impl Bus {
         self.of_party(Operation::Step, party)
     }
 
-    /// Gives so many turns, each to the party that has waited longest for one since this call began, of equals to the lowest.
-    /// The bus of no parties is refused with 1.
+    /// Gives so many turns, each to the party that has waited longest for one since this call began, of
+    /// equals to the lowest. The bus of no parties is refused with 1.
     pub fn give_turns(&mut self, turns: u16) -> Turns {
         let mut counts = [0; MOST_PARTIES];
-        // The rows are this bus's own, and the counts are lent for the call.
+        // SAFETY: the rows are this bus's own, and the counts are lent for the call.
         let refusal = unsafe { meskvorn_turns(self.rows.as_mut_ptr(), turns, counts.as_mut_ptr()) };
         Turns {
             refusal: Refusal::ALL[usize::from(refusal)],
@@ -206,7 +210,7 @@ impl Bus {
     /// Which parties drive each line, and how many they are. Never refused.
     pub fn drivers(&mut self) -> Drivers {
         let (mut masks, mut counts) = ([0; LINES], [0; LINES]);
-        // The rows are this bus's own, and there is an entry for each line.
+        // SAFETY: the rows are this bus's own, and there is an entry for each line.
         let packed = unsafe {
             meskvorn_drivers(
                 self.rows.as_mut_ptr(),
@@ -222,10 +226,11 @@ impl Bus {
     }
 }
 
-/// Runs a script and writes its text at the start of `out`, if that has 34 bytes for each record and part of one. Gives the number of bytes
-/// written; None if there was no room, and then nothing is written.
+/// Runs a script and writes its text at the start of `out`, if that has 34 bytes for each record and
+/// part of one. Gives the number of bytes written; None if there was no room, and then nothing is
+/// written.
 pub fn run(script: &[u8], out: &mut [u8]) -> Option<usize> {
-    // Both slices are lent for the call alone, with the lengths that they have.
+    // SAFETY: both slices are lent for the call alone, with the lengths that they have.
     let written =
         unsafe { meskvorn_run(script.as_ptr(), script.len(), out.as_mut_ptr(), out.len()) };
     (written != usize::MAX).then_some(written)

@@ -1,9 +1,8 @@
 //! Calls for drivers that have one mistake each.
 
 use crate::model::{
-    Acceptor, Answer, Bus, Control, Drivers, Event, Line, Refusal, Service, Source,
+    Acceptor, Answer, Bus, Control, Drivers, Event, Line, Refusal, Service, Source, ATN, EOI,
 };
-use crate::model::{ATN, EOI};
 
 pub type DriversFault = fn(&mut Bus) -> Drivers;
 

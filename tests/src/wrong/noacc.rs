@@ -1,8 +1,8 @@
 //! What a machine can get wrong about a byte that nobody is there to take.
 
-use super::faults::{actor, is, was};
+use super::{actor, is, was};
+use crate::model::script::{Record, STEP};
 use crate::model::{Answer, Bus, Event, Source, NRFD};
-use crate::script::{Record, STEP};
 
 pub fn with_a_listener(bus: &mut Bus, before: &Bus, call: Record, answer: &mut Answer) {
     let waits = is(call, answer, STEP) && was(before, call).source == Source::Sdys;

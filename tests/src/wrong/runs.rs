@@ -1,8 +1,8 @@
 //! Runs with one mistake each; every single call is right.
 
+use crate::compare::subject::{like_lines_by, try_run_by, Subject};
+use crate::model::script::{self, Call};
 use crate::model::{Answer, Bus, Drivers, Event, Name, Refusal, Turns, Waiting, MOST_PARTIES};
-use crate::script::{self, Call};
-use crate::subject::{like_lines_by, try_run_by, Subject};
 
 /// A run. The number is the machine's to keep between runs, 0 at the start.
 pub type RunFault = fn(&mut Bus, u16, &mut usize) -> Turns;

@@ -1,8 +1,8 @@
 //! What a machine can get wrong about secondaries and marks.
 
-use super::faults::{actor, is, was, Fault};
+use super::{actor, is, was, Fault};
+use crate::model::script::{Record, CLEAR, LISTEN, RESET, STANDBY, TAKE, TALK};
 use crate::model::{Answer, Bus, Event, Mark};
-use crate::script::{Record, CLEAR, LISTEN, RESET, STANDBY, TAKE, TALK};
 
 pub const SECONDARY_FAULTS: &[(&str, Fault)] = &[
     ("a mark survives a universal command", survives_universal),

@@ -1,0 +1,205 @@
+//! One list on kept buses, call by call: model, ledger and subject side by side.
+
+use super::subject::{self, Subject};
+use super::Difference;
+use crate::ledger::bound::Start;
+use crate::ledger::tally::Tally;
+use crate::ledger::{Ledger, Requests};
+use crate::lists::pieces::{self, Piece};
+use crate::model::script::{self, Record, BUILD, STEP};
+use crate::model::{Answer, Bus, Name, Refusal};
+
+type Done = Result<(), Difference>;
+
+struct Walk<'a> {
+    bus: Bus,
+    ledger: Ledger,
+    requests: Requests,
+    subject: &'a mut dyn Subject,
+    tally: &'a mut Tally,
+    /// The piece of the list that is compared, from 1.
+    number: usize,
+}
+
+impl Walk<'_> {
+    fn enter(&mut self, before: &Bus, call: Record, answer: &Answer) -> Done {
+        let number = self.number;
+        let entered = self.ledger.enter(before, call, answer, &self.bus);
+        entered.map_err(|rule| Difference::Ledger { number, rule })?;
+        let asked = &mut self.tally.asked;
+        asked.enter(before, call, answer);
+        let requests = &mut self.requests;
+        let entered = requests.enter(before, call, answer, &self.bus, asked);
+        entered.map_err(|rule| Difference::Request { number, rule })
+    }
+
+    /// One call, whose answer by the subject is known; the books read it as a record.
+    fn agree(
+        &mut self,
+        as_record: Record,
+        subject: Answer,
+        call: impl FnOnce(&mut Bus) -> Answer,
+    ) -> Done {
+        let before = self.bus;
+        let model = call(&mut self.bus);
+        if subject != model {
+            let number = self.number;
+            return Err(Difference::Answer {
+                number,
+                model,
+                subject,
+            });
+        }
+        self.tally.count(&model);
+        let marks = &mut self.tally.marks;
+        marks.enter(&before, as_record, &model, &self.bus);
+        self.enter(&before, as_record, &model)
+    }
+
+    fn record(&mut self, record: Record) -> Done {
+        let subject = self.subject.record(record);
+        self.agree(record, subject, |bus| script::run_record(bus, record))?;
+        if record[2] == BUILD {
+            self.agree_on_names()?;
+        }
+        Ok(())
+    }
+
+    fn build(&mut self, names: &[Name], system: u8) -> Done {
+        let as_record = pieces::build_of_named(system);
+        let subject = self.subject.build_extended(names, system);
+        self.agree(as_record, subject, |bus| bus.build_extended(names, system))?;
+        self.agree_on_names()
+    }
+
+    fn agree_on_names(&self) -> Done {
+        let number = self.number;
+        match subject::other_name(&self.bus, self.subject) {
+            None => Ok(()),
+            Some((party, model, subject)) => Err(Difference::Name {
+                number,
+                party,
+                model,
+                subject,
+            }),
+        }
+    }
+
+    /// In the list a run stands for its steps, so each is compared and entered as a call.
+    fn run(&mut self, turns: u16) -> Done {
+        let number = self.number;
+        let before = self.bus;
+        let model = before.clone().give_turns(turns);
+        let order: Vec<u8> = before.order_of(turns).collect();
+        let (answers, same) = self.subject.try_run(turns, &order);
+        for (party, answer) in order.into_iter().zip(answers) {
+            let record = script::record(STEP, party, 0, 0);
+            self.agree(record, answer, |bus| bus.step(party))?;
+        }
+        if model.refusal != Refusal::Accepted {
+            self.enter(&before, pieces::run(turns), &Answer::refused(model.refusal))?;
+        }
+        let subject = self.subject.give_turns(turns);
+        self.tally.count_run(&model);
+        self.tally.marks.enter_run(&before);
+        match (model == subject, same) {
+            (true, true) => Ok(()),
+            (true, false) => Err(Difference::Bus { number }),
+            _ => Err(Difference::Turns {
+                number,
+                model,
+                subject,
+            }),
+        }
+    }
+
+    /// The drivers, beside the lines of the same bus.
+    fn drivers(&mut self) -> Done {
+        let number = self.number;
+        let before = self.bus;
+        let (model, lines) = (before.clone().drivers(), before.clone().lines());
+        let like_lines = self.subject.drivers_like_lines();
+        let subject = self.subject.drivers();
+        self.agree(pieces::DRIVERS, subject.answer, |bus| bus.drivers().answer)?;
+        if model != subject {
+            return Err(Difference::Drivers {
+                number,
+                model,
+                subject,
+            });
+        }
+        if !like_lines {
+            return Err(Difference::LikeLines { number });
+        }
+        self.tally.driven.enter(&model);
+        let ledger = &self.ledger;
+        let checked = ledger.check_drivers(&before, &model, lines.byte, &self.bus);
+        checked.map_err(|rule| Difference::Ledger { number, rule })
+    }
+
+    /// Tries the bound on copies, if it holds from here.
+    fn try_bound(&mut self) -> Done {
+        let Some(start) = Start::of(&self.bus) else {
+            return Ok(());
+        };
+        let order: Vec<u8> = self.bus.order_of(start.turns()).collect();
+        let mut copy = self.bus;
+        let steps = order.iter().map(|&party| copy.step(party));
+        let model = start.ended_after(&order, &steps.collect::<Vec<Answer>>());
+        let (answers, same) = self.subject.try_run(start.turns(), &order);
+        let subject = start.ended_after(&order, &answers).filter(|_| same);
+        if let (Some(needed), true) = (model, model == subject) {
+            self.tally.bound.enter(&start, needed);
+            return Ok(());
+        }
+        let number = self.number;
+        Err(Difference::Bound {
+            number,
+            model,
+            subject,
+        })
+    }
+
+    /// True if the list goes on after this piece.
+    fn piece(&mut self, piece: &Piece) -> Result<bool, Difference> {
+        match piece {
+            Piece::Run(turns) => self.run(*turns)?,
+            Piece::Drivers => self.drivers()?,
+            Piece::Name(_) => return Ok(true),
+            Piece::Build(names, system) => self.build(names, *system)?,
+            Piece::Record(record) => {
+                self.record(*record)?;
+                if !script::has_mark(record) {
+                    return Ok(false);
+                }
+            }
+            Piece::Tail => {
+                self.tally.count(&Answer::refused(Refusal::Record));
+                return Ok(false);
+            }
+        }
+        self.try_bound()?;
+        Ok(true)
+    }
+}
+
+/// A whole list, up to the first bad record.
+pub fn compare_calls(subject: &mut dyn Subject, list: &[u8], tally: &mut Tally) -> Done {
+    subject.start();
+    let mut walk = Walk {
+        bus: Bus::new(),
+        ledger: Ledger::new(),
+        requests: Requests::new(),
+        subject,
+        tally,
+        number: 0,
+    };
+    for piece in pieces::of_list(list) {
+        walk.number += 1;
+        if !walk.piece(&piece)? {
+            return Ok(());
+        }
+    }
+    // No call gives a party another name.
+    walk.agree_on_names()
+}

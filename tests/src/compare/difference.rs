@@ -1,0 +1,123 @@
+//! What tells that model and subject are not alike, or that the model breaks a rule.
+
+use super::words;
+use crate::model::{Answer, Drivers, Name, Turns};
+
+/// Where a list shows a fault. Its pieces are numbered from 1; a run's steps have its number.
+#[derive(Clone, PartialEq, Debug)]
+pub enum Difference {
+    Answer {
+        number: usize,
+        model: Answer,
+        subject: Answer,
+    },
+    Turns {
+        number: usize,
+        model: Turns,
+        subject: Turns,
+    },
+    Drivers {
+        number: usize,
+        model: Drivers,
+        subject: Drivers,
+    },
+    /// The drivers, asked for, leave another bus than the lines do.
+    LikeLines {
+        number: usize,
+    },
+    /// What the party is called by, if there is one.
+    Name {
+        number: usize,
+        party: u8,
+        model: Option<Name>,
+        subject: Option<Name>,
+    },
+    /// A run does not leave the bus that its steps leave.
+    Bus {
+        number: usize,
+    },
+    /// After how many turns the byte ended, if it did so within the bound.
+    Bound {
+        number: usize,
+        model: Option<usize>,
+        subject: Option<usize>,
+    },
+    Text {
+        line: usize,
+        model: String,
+        subject: String,
+    },
+    Ledger {
+        number: usize,
+        rule: &'static str,
+    },
+    Request {
+        number: usize,
+        rule: &'static str,
+    },
+    Stopped,
+}
+
+impl Difference {
+    pub fn words(&self) -> String {
+        match self.last_piece() {
+            Some(number) => format!("piece {number}: {}", self.story()),
+            None => self.story(),
+        }
+    }
+
+    fn story(&self) -> String {
+        match self {
+            Difference::Answer { model, subject, .. } => {
+                let (model, subject) = (words::answer(model), words::answer(subject));
+                format!("model {model}, subject {subject}")
+            }
+            Difference::Turns { model, subject, .. } => {
+                format!("model {model:?}, subject {subject:?}")
+            }
+            Difference::Drivers { model, subject, .. } => {
+                let (model, subject) = (words::drivers(model), words::drivers(subject));
+                format!("model {model}; subject {subject}")
+            }
+            Difference::LikeLines { .. } => "drivers leave another bus than lines".to_string(),
+            Difference::Name {
+                party,
+                model,
+                subject,
+                ..
+            } => {
+                format!("name of party {party}: model {model:?}, subject {subject:?}")
+            }
+            Difference::Bus { .. } => "the run leaves another bus than its steps".to_string(),
+            Difference::Bound { model, subject, .. } => {
+                format!("turns until the byte ends: model {model:?}, subject {subject:?}")
+            }
+            Difference::Text {
+                line,
+                model,
+                subject,
+            } => {
+                format!("text line {line}: model {model:?}, subject {subject:?}")
+            }
+            Difference::Ledger { rule, .. } => format!("the model breaks demand 3: {rule}"),
+            Difference::Request { rule, .. } => format!("the model breaks Q-5's condition: {rule}"),
+            Difference::Stopped => "a panic".to_string(),
+        }
+    }
+
+    /// The number of the last piece that matters, if it is known.
+    pub fn last_piece(&self) -> Option<usize> {
+        match self {
+            Difference::Answer { number, .. }
+            | Difference::Turns { number, .. }
+            | Difference::Drivers { number, .. }
+            | Difference::LikeLines { number }
+            | Difference::Name { number, .. }
+            | Difference::Bus { number }
+            | Difference::Bound { number, .. }
+            | Difference::Ledger { number, .. }
+            | Difference::Request { number, .. } => Some(*number),
+            Difference::Text { .. } | Difference::Stopped => None,
+        }
+    }
+}

@@ -1,0 +1,185 @@
+//! Makes a list that shows a difference as short as it gets.
+
+use super::subject::Subject;
+use super::{compare, Difference, Finding};
+use crate::ledger::tally::Tally;
+use crate::lists::pieces::Piece;
+use crate::model::script::{BUILD, LINES, RECORD, WRITE};
+
+/// How many parties the piece at this place builds, if it is a build.
+fn parties_built(pieces: &[Vec<u8>], at: usize) -> Option<usize> {
+    match Piece::of(&pieces[at]) {
+        Piece::Record([_, _, BUILD, _, count, _]) => Some(count.into()),
+        Piece::Build(..) => {
+            let before = pieces[..at].iter().rev();
+            let names = before.take_while(|piece| matches!(Piece::of(piece), Piece::Name(_)));
+            Some(names.count())
+        }
+        _ => None,
+    }
+}
+
+/// The places of builds.
+fn builds(pieces: &[Vec<u8>]) -> Vec<usize> {
+    let places = 0..pieces.len();
+    places
+        .filter(|&at| parties_built(pieces, at).is_some())
+        .collect()
+}
+
+/// A call as it is once party `gone` is not built; None if it was a call of that party.
+/// Addresses above `moved` move down by one in commands.
+fn renumbered(piece: &[u8], gone: u8, moved: u8) -> Option<Vec<u8>> {
+    let mut piece = piece.to_vec();
+    let of_a_party = matches!(Piece::of(&piece), Piece::Record(record) if record[2] != LINES);
+    if !of_a_party {
+        return Some(piece);
+    }
+    if piece[3] == gone {
+        return None;
+    }
+    piece[3] -= u8::from(piece[3] > gone);
+    let is_address = matches!(piece[4] & 0x7F, 0x20..=0x3E | 0x40..=0x5E);
+    if piece[2] == WRITE && is_address && piece[4] & 0x1F > moved {
+        piece[4] -= 1;
+    }
+    Some(piece)
+}
+
+/// The list without party `gone` of the build at `at`, up to the next build.
+fn without_party(pieces: &[Vec<u8>], at: usize, gone: u8) -> Vec<Vec<u8>> {
+    let (mut fewer, mut build) = (pieces[..at].to_vec(), pieces[at].clone());
+    build[3] -= u8::from(build[3] > gone);
+    let moved = match (Piece::of(&build), parties_built(pieces, at)) {
+        (Piece::Build(..), Some(names)) => {
+            fewer.remove(at - names + usize::from(gone));
+            u8::MAX
+        }
+        _ => {
+            build[4] -= 1;
+            build[5].saturating_add(gone)
+        }
+    };
+    let after = &pieces[at + 1..];
+    let next = *builds(after).first().unwrap_or(&after.len());
+    let calls = after[..next]
+        .iter()
+        .filter_map(|piece| renumbered(piece, gone, moved));
+    fewer.push(build);
+    fewer.extend(calls);
+    fewer.extend_from_slice(&after[next..]);
+    fewer
+}
+
+struct Shrinker<'a> {
+    subject: &'a mut dyn Subject,
+    pieces: Vec<Vec<u8>>,
+    difference: Difference,
+}
+
+impl Shrinker<'_> {
+    /// Keeps the pieces if they still show a difference, of whatever sort.
+    fn try_pieces(&mut self, pieces: Vec<Vec<u8>>) -> bool {
+        match compare(self.subject, &pieces.concat(), &mut Tally::default()) {
+            Ok(()) => false,
+            Err(difference) => {
+                self.pieces = pieces;
+                self.difference = difference;
+                true
+            }
+        }
+    }
+
+    fn cut_after_difference(&mut self) {
+        if let Some(last) = self.difference.last_piece() {
+            let pieces = self.pieces[..last.min(self.pieces.len())].to_vec();
+            self.try_pieces(pieces);
+        }
+    }
+
+    /// Leaves out runs of `size` pieces; true if any could go.
+    fn leave_out(&mut self, size: usize) -> bool {
+        let mut any = false;
+        let mut start = 0;
+        while start < self.pieces.len() {
+            let end = (start + size).min(self.pieces.len());
+            let mut pieces = self.pieces.clone();
+            pieces.drain(start..end);
+            if self.try_pieces(pieces) {
+                any = true;
+            } else {
+                start = end;
+            }
+        }
+        any
+    }
+
+    /// Leaves out whole parties; true if any could go.
+    fn fewer_parties(&mut self) -> bool {
+        let mut any = false;
+        for number in 0..builds(&self.pieces).len() {
+            for gone in (0..16).rev() {
+                let at = builds(&self.pieces)[number];
+                let built = parties_built(&self.pieces, at);
+                if built.is_some_and(|count| usize::from(gone) < count) {
+                    any |= self.try_pieces(without_party(&self.pieces, at, gone));
+                }
+            }
+        }
+        any
+    }
+
+    /// Makes party, value and extra smaller where that keeps a difference.
+    fn lower_fields(&mut self) -> bool {
+        let mut any = false;
+        for place in 0..self.pieces.len() {
+            for field in 3..RECORD {
+                while self.lower(place, field) {
+                    any = true;
+                }
+            }
+        }
+        any
+    }
+
+    fn lower(&mut self, place: usize, field: usize) -> bool {
+        let Some(&old) = self.pieces.get(place).and_then(|piece| piece.get(field)) else {
+            return false;
+        };
+        for smaller in [0, old / 2, old.saturating_sub(1)] {
+            let mut pieces = self.pieces.clone();
+            pieces[place][field] = smaller;
+            if smaller < old && self.try_pieces(pieces) {
+                return true;
+            }
+        }
+        false
+    }
+
+    fn run(&mut self) {
+        self.cut_after_difference();
+        self.fewer_parties();
+        let mut size = self.pieces.len().div_ceil(2);
+        while size > 1 {
+            self.leave_out(size);
+            size = size.div_ceil(2);
+        }
+        while self.leave_out(1) || self.fewer_parties() || self.lower_fields() {}
+        self.cut_after_difference();
+    }
+}
+
+/// Shortens a list whose comparison gave `first`.
+pub fn shorten(subject: &mut dyn Subject, list: &[u8], first: Difference) -> Finding {
+    let pieces = list.chunks(RECORD).map(<[u8]>::to_vec).collect();
+    let mut shrinker = Shrinker {
+        subject,
+        pieces,
+        difference: first,
+    };
+    shrinker.run();
+    Finding {
+        list: shrinker.pieces.concat(),
+        difference: shrinker.difference,
+    }
+}

@@ -1,0 +1,124 @@
+//! The thing under test, as the comparison drives it.
+
+use crate::model::script::{self, Call, Record};
+use crate::model::{Answer, Bus, Drivers, Name, Turns, MOST_PARTIES};
+
+pub trait Subject {
+    /// Runs a whole script from the bus of no parties and adds the text of busrun to `out`.
+    /// The kept bus has no part in it.
+    fn run_script(&mut self, script: &[u8], out: &mut Vec<u8>);
+
+    /// Makes the kept bus the bus of no parties.
+    fn start(&mut self);
+
+    /// Builds the kept bus from addresses in any order, as no record can.
+    fn build(&mut self, addresses: &[u8], system: u8) -> Answer;
+
+    /// The same with secondaries.
+    fn build_extended(&mut self, names: &[Name], system: u8) -> Answer;
+
+    /// What a build named the party, if there is one.
+    fn name(&self, party: u8) -> Option<Name>;
+
+    /// One call on the kept bus by its operation's number. A build is none.
+    fn call(&mut self, call: Call) -> Answer;
+
+    /// A run on the kept bus.
+    fn give_turns(&mut self, turns: u16) -> Turns;
+
+    /// A run, and beside it single steps of these parties, on copies of the kept bus: the answers to
+    /// the steps, and whether both left the same bus.
+    fn try_run(&self, turns: u16, order: &[u8]) -> (Vec<Answer>, bool);
+
+    /// The drivers of each line of the kept bus.
+    fn drivers(&mut self) -> Drivers;
+
+    /// Whether the drivers and the lines, asked for on copies of the kept bus, leave the same bus.
+    fn drivers_like_lines(&self) -> bool;
+
+    /// One record on the kept bus.
+    fn record(&mut self, record: Record) -> Answer {
+        script::run_record_by(self, record, Self::build, Self::call)
+    }
+}
+
+/// The first party that model and subject call by different names, with both.
+pub fn other_name(bus: &Bus, subject: &dyn Subject) -> Option<(u8, Option<Name>, Option<Name>)> {
+    let parties = (0..=MOST_PARTIES as u8).chain([u8::MAX]);
+    let mut names = parties.map(|party| (party, bus.name(party), subject.name(party)));
+    names.find(|(_, model, told)| model != told)
+}
+
+/// `try_run` for a subject that keeps such a bus.
+pub fn try_run_by<B: Clone + PartialEq>(
+    bus: &B,
+    order: &[u8],
+    run: impl FnOnce(&mut B) -> Turns,
+    step: impl Fn(&mut B, u8) -> Answer,
+) -> (Vec<Answer>, bool) {
+    let (mut whole, mut single) = (bus.clone(), bus.clone());
+    run(&mut whole);
+    let steps = order.iter().map(|&party| step(&mut single, party));
+    let answers = steps.collect();
+    (answers, whole == single)
+}
+
+/// `drivers_like_lines` for a subject that keeps such a bus.
+pub fn like_lines_by<B: Clone + PartialEq>(
+    bus: &B,
+    drivers: impl Fn(&mut B) -> Drivers,
+    lines: impl Fn(&mut B) -> Answer,
+) -> bool {
+    let (mut one, mut other) = (bus.clone(), bus.clone());
+    drivers(&mut one);
+    lines(&mut other);
+    one == other
+}
+
+/// The model as its own subject.
+#[derive(Default)]
+pub struct ModelSubject {
+    bus: Bus,
+}
+
+impl Subject for ModelSubject {
+    fn run_script(&mut self, script: &[u8], out: &mut Vec<u8>) {
+        script::run(script, out);
+    }
+
+    fn start(&mut self) {
+        self.bus = Bus::new();
+    }
+
+    fn build(&mut self, addresses: &[u8], system: u8) -> Answer {
+        self.bus.build(addresses, system)
+    }
+
+    fn build_extended(&mut self, names: &[Name], system: u8) -> Answer {
+        self.bus.build_extended(names, system)
+    }
+
+    fn name(&self, party: u8) -> Option<Name> {
+        self.bus.name(party)
+    }
+
+    fn call(&mut self, call: Call) -> Answer {
+        script::call(&mut self.bus, call)
+    }
+
+    fn give_turns(&mut self, turns: u16) -> Turns {
+        self.bus.give_turns(turns)
+    }
+
+    fn try_run(&self, turns: u16, order: &[u8]) -> (Vec<Answer>, bool) {
+        try_run_by(&self.bus, order, |bus| bus.give_turns(turns), Bus::step)
+    }
+
+    fn drivers(&mut self) -> Drivers {
+        self.bus.drivers()
+    }
+
+    fn drivers_like_lines(&self) -> bool {
+        like_lines_by(&self.bus, Bus::drivers, Bus::lines)
+    }
+}

@@ -1,0 +1,14 @@
+//! Lists for the comparison: what they are made of, and what writes them by chance, by search and by
+//! tables.
+
+pub mod command_codes;
+pub mod composer;
+pub mod guided;
+pub mod hex;
+pub mod kinds_of_state;
+pub mod likely_arguments;
+pub mod pieces;
+pub mod random_numbers;
+pub mod random_racks;
+pub mod scenarios;
+pub mod tables;

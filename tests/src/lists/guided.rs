@@ -1,0 +1,369 @@
+//! Random lists that look at the model's state to go where bytes stand.
+
+use std::collections::VecDeque;
+
+use super::likely_arguments::{
+    any_party, controller, likely_command, likely_register, likely_turns,
+};
+use super::pieces::{self, Piece};
+use super::random_numbers::Random;
+use super::random_racks;
+use super::scenarios::{scenario, Goal};
+use crate::model::script::{
+    self, Record, BUILD, CLEAR, DROP, LAST_OPERATION, LINES, LISTEN, POLL, READ, REQUEST, RESET,
+    STANDBY, STEP, TAKE, TALK, WRITE,
+};
+use crate::model::{Acceptor, Bus, Control, Event, Name};
+
+/// How one list behaves, in times per thousand.
+#[derive(Clone, Copy, Default)]
+struct Habits {
+    /// How often a build has secondaries.
+    secondaries: usize,
+    disturb: usize,
+    wild: usize,
+    idle_steps: usize,
+    reads: usize,
+    runs: usize,
+    /// How often the drivers are asked for.
+    drivers: usize,
+    /// How often a scenario is one of requests and polls.
+    polls: usize,
+}
+
+pub struct Guided {
+    random: Random,
+    bus: Bus,
+    list: Vec<u8>,
+    plan: VecDeque<Goal>,
+    habits: Habits,
+}
+
+impl Guided {
+    pub fn new(seed: u64) -> Guided {
+        Guided {
+            random: Random::new(seed),
+            bus: Bus::new(),
+            list: Vec::new(),
+            plan: VecDeque::new(),
+            habits: Habits::default(),
+        }
+    }
+
+    /// The next list; most end well, some with a bad record.
+    pub fn list(&mut self) -> &[u8] {
+        self.begin(&[]);
+        self.draw_habits();
+        self.opening();
+        for _ in 0..30 + self.random.below(300 + 40 * self.bus.count) {
+            self.next_call();
+        }
+        if self.random.per_mille(120) {
+            self.bad_ending();
+        }
+        &self.list
+    }
+
+    /// The records given, then `more` calls of all sorts, then the lines and their drivers.
+    pub fn go_on(&mut self, records: &[Record], more: usize) -> &[u8] {
+        self.begin(records);
+        self.habits = Habits {
+            secondaries: 0,
+            disturb: 450,
+            wild: 0,
+            idle_steps: 250,
+            reads: 500,
+            runs: 15,
+            drivers: 15,
+            polls: 0,
+        };
+        for _ in 0..more {
+            self.next_call();
+        }
+        self.call(script::record(LINES, 0, 0, 0));
+        self.call(pieces::DRIVERS);
+        &self.list
+    }
+
+    fn begin(&mut self, records: &[Record]) {
+        self.list.clear();
+        self.plan.clear();
+        self.list.extend(records.concat());
+        self.bus = pieces::bus_after(&self.list);
+    }
+
+    fn draw_habits(&mut self) {
+        let random = &mut self.random;
+        self.habits = Habits {
+            secondaries: random.pick(&[0, 950]),
+            disturb: random.pick(&[0, 20, 60, 150, 400]),
+            wild: random.pick(&[0, 0, 0, 5, 30, 300]),
+            idle_steps: random.pick(&[0, 20, 100, 400]),
+            reads: random.pick(&[50, 300, 900]),
+            runs: random.pick(&[0, 0, 5, 20, 100]),
+            drivers: random.pick(&[0, 10, 30, 200]),
+            polls: random.pick(&[0, 0, 800]),
+        };
+    }
+
+    fn opening(&mut self) {
+        while self.random.per_mille(60) {
+            let record = self.wild_record();
+            self.call(record);
+        }
+        while self.random.per_mille(60) {
+            self.bad_build();
+        }
+        while self.random.per_mille(60) {
+            let run = self.run();
+            self.call(run);
+        }
+        while self.random.per_mille(60) {
+            self.call(pieces::DRIVERS);
+        }
+        self.good_build();
+    }
+
+    fn good_build(&mut self) {
+        let random = &mut self.random;
+        let count = match random.below(20) {
+            0 => 1,
+            1..=7 => 2,
+            8..=13 => 3,
+            14..=16 => 4,
+            17..=18 => 1 + random.below(15),
+            _ => random.pick(&[14, 15]),
+        };
+        let system = random.below(count) as u8;
+        if random.per_mille(self.habits.secondaries) {
+            let names = random_racks::mixed(count, random);
+            return self.build(&names, system);
+        }
+        let first = match random.below(4) {
+            0 => 0,
+            1 => 31 - count,
+            _ => random.below(32 - count),
+        };
+        self.call(script::record(BUILD, system, count as u8, first as u8));
+    }
+
+    fn bad_build(&mut self) {
+        let random = &mut self.random;
+        let count = 1 + random.below(15) as u8;
+        if random.per_mille(self.habits.secondaries) {
+            let mut names = random_racks::mixed(count.into(), random);
+            random_racks::spoil(&mut names, random);
+            return self.build(&names, 0);
+        }
+        let record = match random.below(5) {
+            0 => script::record(BUILD, random.below(2) as u8, 0, random.below(31) as u8),
+            1 => script::record(BUILD, 0, 16 + random.below(240) as u8, 0),
+            2 => script::record(BUILD, 0, count, 32 - count),
+            3 => script::record(BUILD, 0, count, 31 + random.below(225) as u8),
+            _ => script::record(BUILD, count + random.below(240) as u8, count, 0),
+        };
+        self.call(record);
+    }
+
+    /// A wrong mark, a short tail, or both.
+    fn bad_ending(&mut self) {
+        let mut record = self.wild_record();
+        if self.random.per_mille(500) {
+            record[self.random.below(2)] = self.random.byte();
+        }
+        let end = 1 + self.random.below(6);
+        self.list.extend_from_slice(&record[..end]);
+    }
+
+    fn call(&mut self, record: Record) {
+        pieces::enter(&mut self.bus, &Piece::of(&record));
+        self.list.extend_from_slice(&record);
+    }
+
+    fn build(&mut self, names: &[Name], system: u8) {
+        self.bus.build_extended(names, system);
+        self.list.extend(pieces::build(names, system).concat());
+    }
+
+    fn next_call(&mut self) {
+        let record = if self.random.per_mille(self.habits.runs) {
+            self.run()
+        } else if self.random.per_mille(self.habits.drivers) {
+            pieces::DRIVERS
+        } else if self.random.per_mille(self.habits.wild) {
+            self.wild_record()
+        } else if self.random.per_mille(self.habits.disturb) {
+            self.disturbance()
+        } else if self.bus.count == 0 {
+            return self.good_build();
+        } else {
+            self.planned()
+        };
+        self.call(record);
+    }
+
+    fn run(&mut self) -> Record {
+        pieces::run(likely_turns(&self.bus, &mut self.random))
+    }
+
+    /// Any operation with any fields; seldom a build.
+    fn wild_record(&mut self) -> Record {
+        let random = &mut self.random;
+        let mut operation = random.field(16);
+        if operation == BUILD && random.per_mille(800) {
+            operation = LINES;
+        }
+        let (party, value, extra) = (random.field(17), random.field(17), random.field(32));
+        script::record(operation, party, value, extra)
+    }
+
+    /// A call that fits no plan, its arguments mostly in range.
+    fn disturbance(&mut self) -> Record {
+        let random = &mut self.random;
+        let count = self.bus.count as u8;
+        let party = match random.below(40) {
+            0 => count,
+            1 => random.byte(),
+            2..=12 => controller(&self.bus),
+            _ => any_party(&self.bus, random),
+        };
+        let switch = match random.below(30) {
+            0 => 2,
+            1 => random.byte(),
+            _ => random.below(2) as u8,
+        };
+        let operation = 1 + random.below(usize::from(LAST_OPERATION)) as u8;
+        let (value, extra) = match operation {
+            WRITE => (likely_command(&self.bus, random), switch),
+            POLL => (likely_register(random), random.byte()),
+            LISTEN | TALK | REQUEST => (switch, random.byte()),
+            _ => (random.byte(), random.byte()),
+        };
+        script::record(operation, party, value, extra)
+    }
+
+    fn planned(&mut self) -> Record {
+        loop {
+            let Some(goal) = self.plan.pop_front() else {
+                let polls = self.habits.polls;
+                let goals = scenario(&self.bus, &mut self.random, polls);
+                self.plan.extend(goals);
+                continue;
+            };
+            if let Some(record) = self.toward(goal) {
+                return record;
+            }
+        }
+    }
+
+    /// The next call toward a goal; None if the goal is reached or out of reach.
+    fn toward(&mut self, goal: Goal) -> Option<Record> {
+        let active = self
+            .bus
+            .present()
+            .iter()
+            .position(|party| party.is_active());
+        match goal {
+            Goal::Call(operation, party, value, extra) => {
+                Some(script::record(operation, party, value, extra))
+            }
+            Goal::Gain if active.is_some() => None,
+            Goal::Gain => Some(self.gain()),
+            Goal::Release => active.map(|place| script::record(STANDBY, place as u8, 0, 0)),
+            Goal::Command(byte) => self.command(active?, byte),
+            Goal::Data => self.data(),
+            Goal::Finish(left) | Goal::Walk(left) if left == 0 => None,
+            Goal::Finish(left) => {
+                if !self.pending() {
+                    return None;
+                }
+                self.plan.push_front(Goal::Finish(left - 1));
+                Some(self.walk())
+            }
+            Goal::Walk(left) => {
+                self.plan.push_front(Goal::Walk(left - 1));
+                Some(self.walk())
+            }
+        }
+    }
+
+    fn gain(&mut self) -> Record {
+        let party = controller(&self.bus);
+        let place = usize::from(party);
+        let clears = place == self.bus.system && self.random.per_mille(150);
+        let standby = self.bus.parties[place].control == Control::Standby;
+        let operation = if standby && !clears { TAKE } else { CLEAR };
+        script::record(operation, party, 0, 0)
+    }
+
+    fn command(&mut self, active: usize, byte: u8) -> Option<Record> {
+        let finish = Goal::Finish(8 * self.bus.count + 8);
+        if self.pending() {
+            self.plan.push_front(Goal::Command(byte));
+            self.plan.push_front(finish);
+            if self.random.per_mille(50) {
+                let operation = self.random.pick(&[RESET, STANDBY]);
+                return Some(script::record(operation, active as u8, 0, 0));
+            }
+            return None;
+        }
+        self.plan.push_front(finish);
+        let end = self.random.below(2) as u8;
+        Some(script::record(WRITE, active as u8, byte, end))
+    }
+
+    fn data(&mut self) -> Option<Record> {
+        let talker = self.bus.present().iter().position(|party| party.talk)?;
+        let byte = self.random.byte();
+        Some(script::record(
+            WRITE,
+            talker as u8,
+            byte,
+            self.random.below(2) as u8,
+        ))
+    }
+
+    /// A source has a byte to send or one stands.
+    fn pending(&self) -> bool {
+        let atn = self.bus.atn();
+        let mut parties = self.bus.present().iter();
+        self.bus.standing.is_some() || parties.any(|p| p.is_source(atn) && p.held.is_some())
+    }
+
+    /// A source that nobody answers: mostly somebody joins, else it tries again or its byte goes.
+    fn unheard(&mut self, source: u8) -> Record {
+        let listener = any_party(&self.bus, &mut self.random);
+        match self.random.below(10) {
+            0..=4 => script::record(LISTEN, listener, 1, 0),
+            5 => script::record(DROP, source, 0, 0),
+            _ => script::record(STEP, source, 0, 0),
+        }
+    }
+
+    /// A step that does something, where there is one; now and then any step, or a read.
+    fn walk(&mut self) -> Record {
+        let count = self.bus.count;
+        let start = self.random.below(count);
+        if self.random.per_mille(self.habits.idle_steps) {
+            return script::record(STEP, start as u8, 0, 0);
+        }
+        if self.random.per_mille(20) {
+            return script::record(LINES, 0, 0, 0);
+        }
+        for place in (start..count).chain(0..start) {
+            let party = &self.bus.parties[place];
+            let waits = party.data_in.is_some() && party.acceptor == Acceptor::Anrs;
+            if waits && self.random.per_mille(self.habits.reads) {
+                return script::record(READ, place as u8, 0, 0);
+            }
+            match self.bus.clone().step(place as u8).event {
+                Event::None => {}
+                Event::Noacc => return self.unheard(place as u8),
+                _ => return script::record(STEP, place as u8, 0, 0),
+            }
+        }
+        // Nothing goes on, so the plan has come to a stop.
+        self.plan.clear();
+        script::record(STEP, start as u8, 0, 0)
+    }
+}

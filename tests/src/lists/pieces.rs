@@ -1,0 +1,158 @@
+//! The pieces of a list: the records of a script, and among them runs, calls for drivers and builds
+//! with secondaries, which no script can ask for. These come in sixes of bytes too, each with a mark
+//! of its own, so that a list is cut as a script is.
+
+use std::borrow::Cow;
+use std::mem;
+
+use crate::model::script::{self, Record, BUILD, LINES, RECORD, STEP};
+use crate::model::{Answer, Bus, Name, Refusal};
+
+const RUN_MARK: [u8; 2] = [0x52, 0x54];
+const DRIVERS_MARK: [u8; 2] = [0x44, 0x52];
+const NAME_MARK: [u8; 2] = [0x4E, 0x41];
+const BUILD_MARK: [u8; 2] = [0x58, 0x50];
+
+/// Stands where a record has its operation, and is none.
+const NO_OPERATION: u8 = 255;
+
+/// What six bytes of a list ask for.
+#[derive(Clone, PartialEq, Debug)]
+pub enum Piece {
+    Run(u16),
+    /// The drivers of each line.
+    Drivers,
+    /// One party of the build that follows.
+    Name(Name),
+    /// The parties named right before, and the system party.
+    Build(Vec<Name>, u8),
+    Record(Record),
+    /// Fewer than six bytes.
+    Tail,
+}
+
+impl Piece {
+    /// A piece by itself, so that a build has no names.
+    pub fn of(bytes: &[u8]) -> Piece {
+        let Ok(record) = Record::try_from(bytes) else {
+            return Piece::Tail;
+        };
+        let [mark, second, _, fields @ ..] = record;
+        match ([mark, second], fields) {
+            (RUN_MARK, [_, high, low]) => Piece::Run(u16::from_be_bytes([high, low])),
+            (DRIVERS_MARK, _) => Piece::Drivers,
+            (NAME_MARK, [primary, 0, _]) => Piece::Name(Name::plain(primary)),
+            (NAME_MARK, [primary, _, own]) => Piece::Name(Name::extended(primary, own)),
+            (BUILD_MARK, [system, ..]) => Piece::Build(Vec::new(), system),
+            _ => Piece::Record(record),
+        }
+    }
+}
+
+/// A run of so many turns.
+pub const fn run(turns: u16) -> Record {
+    let [high, low] = turns.to_be_bytes();
+    [RUN_MARK[0], RUN_MARK[1], NO_OPERATION, 0, high, low]
+}
+
+/// A call for the drivers.
+pub const DRIVERS: Record = [DRIVERS_MARK[0], DRIVERS_MARK[1], NO_OPERATION, 0, 0, 0];
+
+fn name(name: Name) -> Record {
+    let (has, secondary) = match name.secondary {
+        Some(own) => (1, own),
+        None => (0, 0),
+    };
+    let [mark, second] = NAME_MARK;
+    [mark, second, NO_OPERATION, name.primary, has, secondary]
+}
+
+/// The build itself, whose names stand before it.
+pub fn build_of_named(system: u8) -> Record {
+    [BUILD_MARK[0], BUILD_MARK[1], BUILD, system, 0, 0]
+}
+
+/// A build of parties with these names.
+pub fn build(names: &[Name], system: u8) -> Vec<Record> {
+    let named = names.iter().map(|party| name(*party));
+    named.chain([build_of_named(system)]).collect()
+}
+
+/// The pieces of a list one after the other, builds with their names.
+pub fn of_list(list: &[u8]) -> impl Iterator<Item = Piece> + '_ {
+    let mut names = Vec::new();
+    list.chunks(RECORD).map(move |bytes| {
+        let before = mem::take(&mut names);
+        match Piece::of(bytes) {
+            Piece::Name(name) => {
+                names = before;
+                names.push(name);
+                Piece::Name(name)
+            }
+            Piece::Build(_, system) => Piece::Build(before, system),
+            other => other,
+        }
+    })
+}
+
+/// One piece on a kept bus. Of a run the answer has the refusal alone.
+pub fn enter(bus: &mut Bus, piece: &Piece) -> Answer {
+    match piece {
+        Piece::Run(turns) => Answer::refused(bus.give_turns(*turns).refusal),
+        Piece::Drivers => bus.drivers().answer,
+        Piece::Name(_) => Answer::NOTHING,
+        Piece::Build(names, system) => bus.build_extended(names, *system),
+        Piece::Record(record) => script::run_record(bus, *record),
+        Piece::Tail => Answer::refused(Refusal::Record),
+    }
+}
+
+/// The bus that a list leads to.
+pub fn bus_after(list: &[u8]) -> Bus {
+    let mut bus = Bus::new();
+    for piece in of_list(list) {
+        enter(&mut bus, &piece);
+    }
+    bus
+}
+
+/// The script that a list stands for: each run is its steps, and a refused one is none. Where the
+/// drivers are asked for it has the lines, which leave the same bus.
+/// None if the list has a build with names.
+pub fn as_script(list: &[u8]) -> Option<Cow<'_, [u8]>> {
+    let mut all_records = true;
+    for bytes in list.chunks(RECORD) {
+        match Piece::of(bytes) {
+            Piece::Name(_) | Piece::Build(..) => return None,
+            Piece::Run(_) | Piece::Drivers => all_records = false,
+            Piece::Record(_) | Piece::Tail => {}
+        }
+    }
+    Some(if all_records {
+        Cow::Borrowed(list)
+    } else {
+        Cow::Owned(with_records_alone(list))
+    })
+}
+
+fn with_records_alone(list: &[u8]) -> Vec<u8> {
+    let mut bus = Bus::new();
+    let mut script = Vec::new();
+    for bytes in list.chunks(RECORD) {
+        match Piece::of(bytes) {
+            Piece::Run(turns) => {
+                let steps = bus.order_of(turns);
+                script.extend(steps.flat_map(|party| script::record(STEP, party, 0, 0)));
+            }
+            Piece::Drivers => script.extend(script::record(LINES, 0, 0, 0)),
+            piece => {
+                // A run's order needs the number of parties, which no other call changes.
+                if let Piece::Record(build @ [_, _, BUILD, ..]) = piece {
+                    script::run_record(&mut bus, build);
+                }
+                script.extend_from_slice(bytes);
+            }
+        }
+    }
+    script
+}

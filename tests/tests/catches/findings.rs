@@ -1,0 +1,69 @@
+//! What a comparison finds first, and what the ledgers say of a wrong machine by itself.
+
+use meskvorn_tests::compare::subject::Subject;
+use meskvorn_tests::compare::{Comparison, Finding};
+use meskvorn_tests::ledger::tally::Asked;
+use meskvorn_tests::ledger::{Ledger, Requests};
+use meskvorn_tests::lists::guided::Guided;
+use meskvorn_tests::lists::pieces::{self, Piece};
+use meskvorn_tests::lists::tables;
+use meskvorn_tests::model::script::Record;
+use meskvorn_tests::model::Answer;
+use meskvorn_tests::wrong::Wrong;
+
+/// Guided lists until so many records were compared, then the tables.
+pub fn first_finding(subject: &mut dyn Subject, records: u64) -> Option<Finding> {
+    let mut comparison = Comparison::new(subject);
+    let mut guided = Guided::new(2);
+    while comparison.tally.records < records {
+        if let Err(finding) = comparison.list(guided.list()) {
+            return Some(finding);
+        }
+    }
+    tables::run(&mut comparison, 2).err()
+}
+
+/// What the ledger says of the machine with the fault of that name.
+pub fn ledger_says(fault: &str, list: &[u8]) -> Option<&'static str> {
+    ledger_of(&mut Wrong::named(fault), list)
+}
+
+/// A call or a build by a wrong machine, with the answer; None for any other piece.
+fn call_of(machine: &mut Wrong, piece: &Piece) -> Option<(Record, Answer)> {
+    match piece {
+        Piece::Record(record) => Some((*record, machine.record(*record))),
+        Piece::Build(names, system) => {
+            let answer = machine.build_extended(names, *system);
+            Some((pieces::build_of_named(*system), answer))
+        }
+        _ => None,
+    }
+}
+
+/// Runs a wrong machine alone, runs left out; the rule that it breaks, if the ledger sees one.
+pub fn ledger_of(machine: &mut Wrong, list: &[u8]) -> Option<&'static str> {
+    let mut ledger = Ledger::new();
+    machine.start();
+    pieces::of_list(list).find_map(|piece| {
+        let before = machine.bus;
+        if piece == Piece::Drivers {
+            let (told, lines) = (machine.drivers(), before.clone().lines());
+            let checked = ledger.check_drivers(&before, &told, lines.byte, &machine.bus);
+            return checked.err();
+        }
+        let (record, answer) = call_of(machine, &piece)?;
+        ledger.enter(&before, record, &answer, &machine.bus).err()
+    })
+}
+
+/// The same by the books of the condition on requests alone.
+pub fn condition_of(machine: &mut Wrong, list: &[u8]) -> Option<&'static str> {
+    let (mut requests, mut asked) = (Requests::new(), Asked::default());
+    machine.start();
+    pieces::of_list(list).find_map(|piece| {
+        let before = machine.bus;
+        let (record, answer) = call_of(machine, &piece)?;
+        let entered = requests.enter(&before, record, &answer, &machine.bus, &mut asked);
+        entered.err()
+    })
+}

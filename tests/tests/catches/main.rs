@@ -1,0 +1,9 @@
+//! The comparison and the ledgers must catch wrong machines, and be quiet about the right one.
+
+mod drivers;
+mod findings;
+mod machine;
+mod runs;
+mod second_requests;
+mod secondaries;
+mod subjects;

@@ -1,0 +1,11 @@
+//! The second model, held against answers worked out from documents 01 and 02.
+
+mod bound;
+mod drivers;
+mod examples;
+mod machine;
+mod refusals;
+mod script_lines;
+mod second_requests;
+mod secondaries;
+mod turns;
