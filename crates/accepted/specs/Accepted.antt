@@ -2,36 +2,36 @@
 -- Assumes nothing.
 use mathlib.Core.Bool.{cond}
 use Rattle.party.specs.Sending.{isSource}
-use Rattle.source_step.specs.SourceStep.{sourceEffect}
-use Rattle.acceptor_step.specs.AcceptorStep.{acceptorEffect}
+use Rattle.source_step.specs.SourceStep.{sourceStep}
+use Rattle.acceptor_step.specs.AcceptorStep.{acceptorStep}
 use Rattle.accepted.specs.Types.{Standby, Active, View, Act, Call, Effect}
 use Rattle.accepted.specs.Types.call-of
 use Rattle.accepted.specs.Types.act-of
 use Rattle.effect.specs.Calls.{isOn}
-use Rattle.effect.specs.Effects.{quiet}
-use Rattle.host_calls.specs.HostCalls.{write, read, pollRegister, secondRequest, listenOnly, talkOnly, controlled, drop, reset, clear, tell}
+use Rattle.effect.specs.Effects.{stay, withStanding}
+use Rattle.host_calls.specs.HostCalls.{write, read, pollRegister, secondRequest, listenOnly, talkOnly, controlled, dropHeld, reset, clear, tell}
 
 -- "A source takes the source step, any other party the acceptor step."
-abbrev pub effect : View → Effect
-effect v = cond (isSource (v .lines .atn) (v .party)) (sourceEffect v) (acceptorEffect v)
+abbrev pub step : View → Effect
+step v = cond (isSource (v .lines .atn) (v .party)) (sourceStep v) (acceptorStep v)
 
--- What an accepted act does to its party and to what stands.
+-- What an accepted act does. What stands changes by a step alone.
 abbrev pub acted : View → Act → Effect
-acted v act-of.Step = effect v
-acted v (act-of.Write x e) = write x (isOn e) v
-acted v act-of.Read = read (v .party .input) v
-acted v (act-of.PollRegister x) = pollRegister x v
-acted v (act-of.ListenOnly on) = listenOnly (isOn on) v
-acted v (act-of.TalkOnly on) = talkOnly (isOn on) v
-acted v act-of.TakeControl = controlled Active v
-acted v act-of.GoToStandby = controlled Standby v
-acted v act-of.InterfaceClear = clear v
-acted v act-of.Reset = reset v
-acted v act-of.Drop = drop v
-acted v (act-of.SecondRequest on) = secondRequest (isOn on) v
+acted v act-of.Step = step v
+acted v (act-of.Write x e) = withStanding (v .standing) (write x (isOn e) v)
+acted v act-of.Read = withStanding (v .standing) (read v)
+acted v (act-of.PollRegister x) = withStanding (v .standing) (pollRegister x v)
+acted v (act-of.ListenOnly on) = withStanding (v .standing) (listenOnly (isOn on) v)
+acted v (act-of.TalkOnly on) = withStanding (v .standing) (talkOnly (isOn on) v)
+acted v act-of.TakeControl = withStanding (v .standing) (controlled Active v)
+acted v act-of.GoToStandby = withStanding (v .standing) (controlled Standby v)
+acted v act-of.InterfaceClear = withStanding (v .standing) (clear v)
+acted v act-of.Reset = withStanding (v .standing) (reset v)
+acted v act-of.Drop = withStanding (v .standing) (dropHeld v)
+acted v (act-of.SecondRequest on) = withStanding (v .standing) (secondRequest (isOn on) v)
 
 abbrev pub effectOf : View → Call → Effect
 effectOf v (call-of.Of i a) = acted v a
-effectOf v call-of.Lines = tell v
+effectOf v call-of.Lines = withStanding (v .standing) (tell v)
 -- Document 02, Q-4: who drives the lines is told beside the answer (crates/bus/specs/Drivers.antt), which has event none.
-effectOf v call-of.Drivers = quiet 0 (v .standing) (v .party)
+effectOf v call-of.Drivers = stay v

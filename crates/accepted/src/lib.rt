@@ -1,22 +1,18 @@
 // What an accepted call does to its party.
 ghost use mathlib.Core.Path.{_≡_};
-ghost use Rattle.accepted.specs.Accepted.{effect, acted, effectOf};
+ghost use Rattle.accepted.specs.Accepted.{step, acted, effectOf};
 use acceptor_step::acceptor_step;
 use effect::Act;
-use effect::After;
 use effect::Call;
 use effect::Effect;
-use effect::Said;
 use effect::View;
 use effect::calls::is_on;
-use event::Event;
-use offer::Slot;
 use party::Control;
 use source_step::source_step;
 
 // A source takes the source step, any other party the acceptor step.
-fn stepped(v: View) -> Effect
-    ensures { λ r. ⌜ r ≡ effect v ⌝ }
+fn step(v: View) -> Effect
+    ensures { λ r. ⌜ r ≡ step v ⌝ }
 {
     let l = v.lines;
     let p = v.party;
@@ -32,30 +28,19 @@ fn acted(a: Act, v: View) -> Effect
     ensures { λ r. ⌜ r ≡ acted v a ⌝ }
 {
     let st = v.standing;
-    let p = v.party;
-    let role = p.role;
-    let request = p.request;
     match a {
-        Act::Step => stepped(v),
-        Act::Write(x, e) => Effect::quiet(0, st, p.with_held(Slot::Full(x, is_on(e)))),
-        Act::Read => host_calls::taken_out(v),
-        Act::PollRegister(x) => host_calls::asking(request.with_saved(x), v),
-        Act::ListenOnly(on) => host_calls::listening(is_on(on), v),
-        Act::TalkOnly(on) => Effect::quiet(
-            0,
-            st,
-            p.with_role(role.with_flags(is_on(on), role.listen)),
-        ),
-        Act::TakeControl => host_calls::in_control(Control::Active, v),
-        Act::GoToStandby => host_calls::in_control(Control::Standby, v),
-        Act::InterfaceClear => Effect::quiet(
-            0,
-            st,
-            p.cleared().change_control(Control::Active),
-        ).then(After::Clear),
-        Act::Reset => host_calls::reset(v),
-        Act::Drop => Effect::quiet(p.held_bytes(), st, p.with_held(Slot::Empty)),
-        Act::SecondRequest(on) => host_calls::asking(request.with_rsv2(is_on(on)), v),
+        Act::Step => step(v),
+        Act::Write(byte, end) => host_calls::write(byte, is_on(end), v).with_standing(st),
+        Act::Read => host_calls::read(v).with_standing(st),
+        Act::PollRegister(value) => host_calls::poll_register(value, v).with_standing(st),
+        Act::ListenOnly(on) => host_calls::listen_only(is_on(on), v).with_standing(st),
+        Act::TalkOnly(on) => host_calls::talk_only(is_on(on), v).with_standing(st),
+        Act::TakeControl => host_calls::controlled(Control::Active, v).with_standing(st),
+        Act::GoToStandby => host_calls::controlled(Control::Standby, v).with_standing(st),
+        Act::InterfaceClear => host_calls::clear(v).with_standing(st),
+        Act::Reset => host_calls::reset(v).with_standing(st),
+        Act::Drop => host_calls::drop_held(v).with_standing(st),
+        Act::SecondRequest(on) => host_calls::second_request(is_on(on), v).with_standing(st),
     }
 }
 
@@ -63,12 +48,10 @@ fn acted(a: Act, v: View) -> Effect
 pub fn effect_of(c: Call, v: View) -> Effect
     ensures { λ r. ⌜ r ≡ effectOf v c ⌝ }
 {
-    let l = v.lines;
     let st = v.standing;
-    let p = v.party;
     match c {
         Call::Of(_, a) => acted(a, v),
-        Call::Lines => Effect::does(Said::say(Event::Lines, l.byte(), false, 0), p, st),
-        Call::Drivers => Effect::quiet(0, st, p),
+        Call::Lines => host_calls::tell(v).with_standing(st),
+        Call::Drivers => v.stay(),
     }
 }

@@ -1,4 +1,4 @@
--- The acceptor step (document 01, "Acceptor step"): its effect, from the lines, what stands and the party.
+-- The acceptor step (document 01, "Acceptor step"): its effect, from what the party sees.
 -- Assumes nothing.
 use Prim.Native.Nat.{ℕ}
 use mathlib.Core.Bool.{Bool, not, cond, _||_}
@@ -7,34 +7,35 @@ use Rattle.role.specs.Hearing.{hearEvent}
 use Rattle.offer.specs.Offer.{isFull}
 use Rattle.party.specs.Parts.{withAcceptor, withInput}
 use Rattle.party.specs.Hearing.{heardBy}
-use Rattle.acceptor_step.specs.Types.{Party, Acceptor, Aids, Anrs, Acrs, Acds, Awns, Full, Lines, Standing, Nothing, Byte, Effect, View}
+use Rattle.acceptor_step.specs.Types.{Acceptor, Aids, Anrs, Acrs, Acds, Awns, Full, Standing, Nothing, Byte, Effect, View}
 use Rattle.acceptor_step.specs.Types.ev
-use Rattle.effect.specs.Effects.{say, does, stay, move}
+use Rattle.effect.specs.Effects.{say, does, stay, moved}
 
 -- "Taking with ATN false fills data-in"
-abbrev pub taking : ℕ → Bool → Standing → Party → Effect
-taking v e st p = does (say ev.Took v e 0) (withAcceptor Acds (withInput (Full v e) p)) st
+abbrev pub fills : ℕ → Bool → View → Effect
+fills x e v = does (say ev.Took x e 0) (withAcceptor Acds (withInput (Full x e) (v .party))) (v .standing)
 
 -- "with ATN true the byte is heard"
-abbrev pub hearing : ℕ → Bool → Standing → Party → Effect
-hearing v e st p = does (say (hearEvent (meaning v) (p .role .listen)) v e 0) (withAcceptor Acds (heardBy v p)) st
+abbrev pub hears : ℕ → Bool → View → Effect
+hears x e v = let p = v .party in
+    does (say (hearEvent (meaning x) (p .role .listen)) x e 0) (withAcceptor Acds (heardBy x p)) (v .standing)
 
 -- "take and go to ACDS": what is taken is the byte that stands.
-abbrev pub take : Bool → Standing → Party → Effect
-take atn Nothing p = stay Nothing p
-take atn (Byte s k v e) p = cond atn (hearing v e (Byte s k v e) p) (taking v e (Byte s k v e) p)
+abbrev pub takes : Standing → View → Effect
+takes Nothing v = stay v
+takes (Byte s k x e) v = cond (v .lines .atn) (hears x e v) (fills x e v)
 
 -- "ANRS: to ACRS if ATN is true or data-in is empty."
-abbrev pub readying : Bool → Bool → Standing → Party → Effect
-readying atn full st p = cond (atn || not full) (move st (withAcceptor Acrs p)) (stay st p)
+abbrev pub readies : Bool → View → Effect
+readies full v = cond (v .lines .atn || not full) (moved v (withAcceptor Acrs (v .party))) (stay v)
 
 -- "ACRS: if DAV, take and go to ACDS. ACDS: to AWNS. AWNS: to ANRS if DAV is false. AIDS: stay."
-abbrev pub acceptorStep : Acceptor → Lines → Standing → Party → Effect
-acceptorStep Aids l st p = stay st p
-acceptorStep Anrs l st p = readying (l .atn) (isFull (p .input)) st p
-acceptorStep Acrs l st p = cond (l .dav) (take (l .atn) st p) (stay st p)
-acceptorStep Acds l st p = move st (withAcceptor Awns p)
-acceptorStep Awns l st p = cond (l .dav) (stay st p) (move st (withAcceptor Anrs p))
+abbrev pub acceptorIn : Acceptor → View → Effect
+acceptorIn Aids v = stay v
+acceptorIn Anrs v = readies (isFull (v .party .input)) v
+acceptorIn Acrs v = cond (v .lines .dav) (takes (v .standing) v) (stay v)
+acceptorIn Acds v = moved v (withAcceptor Awns (v .party))
+acceptorIn Awns v = cond (v .lines .dav) (stay v) (moved v (withAcceptor Anrs (v .party)))
 
-abbrev pub acceptorEffect : View → Effect
-acceptorEffect v = acceptorStep (v .party .acceptor) (v .lines) (v .standing) (v .party)
+abbrev pub acceptorStep : View → Effect
+acceptorStep v = acceptorIn (v .party .acceptor) v

@@ -3,8 +3,6 @@ pub use Rattle.party.specs.declared.Acceptor.{Acceptor}
 pub use Rattle.party.specs.declared.Acceptor.the-variants.{Aids, Anrs, Acrs, Acds, Awns}
 pub use Rattle.offer.specs.declared.Slot.the-variants.{Full}
 pub use Rattle.event.specs.declared.Event.the-variants as ev
-pub use Rattle.party.specs.declared.Party.{Party}
-pub use Rattle.parties.specs.declared.Lines.{Lines}
 pub use Rattle.effect.specs.declared.Standing.{Standing}
 pub use Rattle.effect.specs.declared.Standing.the-variants.{Nothing, Byte}
 pub use Rattle.effect.specs.declared.Effect.{Effect}

@@ -1,6 +1,6 @@
 // The acceptor step.
 ghost use mathlib.Core.Path.{_≡_};
-ghost use Rattle.acceptor_step.specs.AcceptorStep.{hearing, take, readying, acceptorEffect};
+ghost use Rattle.acceptor_step.specs.AcceptorStep.{fills, hears, takes, readies, acceptorStep};
 use effect::Effect;
 use effect::Said;
 use effect::Standing;
@@ -9,60 +9,70 @@ use event::Event;
 use message::meaning_of;
 use offer::Slot;
 use party::Acceptor;
-use party::Party;
 use role::hearing::hear_event;
 
-// A command is taken by hearing it.
-fn hears(v: u8, e: bool, st: Standing, p: Party) -> Effect
-    ensures { λ r. ⌜ r ≡ hearing v e st p ⌝ }
+// Data is taken into data-in.
+fn fills(byte: u8, end: bool, v: View) -> Effect
+    ensures { λ r. ⌜ r ≡ fills byte end v ⌝ }
 {
-    let role = p.role;
-    let event = hear_event(meaning_of(v), role.listen);
-    Effect::does(
-        Said::say(event, v, e, 0),
-        p.heard(v).with_acceptor(Acceptor::Acds),
-        st,
-    )
+    let p = v.party;
+    let st = v.standing;
+    let party = p.with_input(Slot::Full(byte, end))
+        .with_acceptor(Acceptor::Acds);
+    Effect::does(Said::say(Event::Took, byte, end, 0), party, st)
 }
 
-// DAV is true: what stands is taken, and data goes into data-in.
-fn takes(atn: bool, st: Standing, p: Party) -> Effect
-    ensures { λ r. ⌜ r ≡ take atn st p ⌝ }
+// A command is taken by hearing it.
+fn hears(byte: u8, end: bool, v: View) -> Effect
+    ensures { λ r. ⌜ r ≡ hears byte end v ⌝ }
 {
+    let p = v.party;
+    let st = v.standing;
+    let role = p.role;
+    let event = hear_event(meaning_of(byte), role.listen);
+    let party = p.heard(byte).with_acceptor(Acceptor::Acds);
+    Effect::does(Said::say(event, byte, end, 0), party, st)
+}
+
+// DAV is true: what stands is taken.
+fn takes(st: Standing, v: View) -> Effect
+    ensures { λ r. ⌜ r ≡ takes st v ⌝ }
+{
+    let l = v.lines;
     match st {
-        Standing::Nothing => Effect::stay(Standing::Nothing, p),
+        Standing::Nothing => v.stay(),
         Standing::Byte {
             sender: _,
             kind: _,
             value,
             end,
         } => {
-            if atn {
-                hears(value, end, st, p)
+            if l.atn {
+                hears(value, end, v)
             } else {
-                let party = p.with_input(Slot::Full(value, end))
-                    .with_acceptor(Acceptor::Acds);
-                Effect::does(Said::say(Event::Took, value, end, 0), party, st)
+                fills(value, end, v)
             }
         }
     }
 }
 
 // A party in ANRS is ready for a command, and for data if data-in is empty.
-fn from_anrs(atn: bool, full: bool, st: Standing, p: Party) -> Effect
-    ensures { λ r. ⌜ r ≡ readying atn full st p ⌝ }
+fn readies(full: bool, v: View) -> Effect
+    ensures { λ r. ⌜ r ≡ readies full v ⌝ }
 {
-    if atn {
-        Effect::moved(st, p.with_acceptor(Acceptor::Acrs))
+    let l = v.lines;
+    let p = v.party;
+    if l.atn {
+        v.moved(p.with_acceptor(Acceptor::Acrs))
     } else if full {
-        Effect::stay(st, p)
+        v.stay()
     } else {
-        Effect::moved(st, p.with_acceptor(Acceptor::Acrs))
+        v.moved(p.with_acceptor(Acceptor::Acrs))
     }
 }
 
 pub fn acceptor_step(v: View) -> Effect
-    ensures { λ r. ⌜ r ≡ acceptorEffect v ⌝ }
+    ensures { λ r. ⌜ r ≡ acceptorStep v ⌝ }
 {
     let l = v.lines;
     let st = v.standing;
@@ -70,18 +80,14 @@ pub fn acceptor_step(v: View) -> Effect
     let acceptor = p.acceptor;
     let input = p.input;
     match acceptor {
-        Acceptor::Aids => Effect::stay(st, p),
-        Acceptor::Anrs => from_anrs(l.atn, input.is_full(), st, p),
-        Acceptor::Acrs => if l.dav {
-            takes(l.atn, st, p)
-        } else {
-            Effect::stay(st, p)
-        },
-        Acceptor::Acds => Effect::moved(st, p.with_acceptor(Acceptor::Awns)),
+        Acceptor::Aids => v.stay(),
+        Acceptor::Anrs => readies(input.is_full(), v),
+        Acceptor::Acrs => if l.dav { takes(st, v) } else { v.stay() },
+        Acceptor::Acds => v.moved(p.with_acceptor(Acceptor::Awns)),
         Acceptor::Awns => if l.dav {
-            Effect::stay(st, p)
+            v.stay()
         } else {
-            Effect::moved(st, p.with_acceptor(Acceptor::Anrs))
+            v.moved(p.with_acceptor(Acceptor::Anrs))
         },
     }
 }

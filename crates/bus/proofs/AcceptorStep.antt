@@ -13,15 +13,16 @@ use Rattle.party.specs.Sending.{isSource}
 use Rattle.role.proofs.Logic.{no, test, cond-elim, or-right}
 use Rattle.role.proofs.Roles.{weak-same, hear-single, hear-name, hear-events}
 use Rattle.party.proofs.Settled.{source-of-active}
-use Rattle.bus.specs.Types.{Place, Party, Strs, Acceptor, Aids, Anrs, Acrs, Acds, Awns, Kind, Event, Standing, Nothing, Byte, Bus, Effect}
+use Rattle.bus.specs.Types.{Place, Party, Strs, Acceptor, Aids, Anrs, Acrs, Acds, Awns, Kind, Event, Standing, Nothing, Byte, Bus, Effect, View}
 use Rattle.bus.specs.Types.ev
 use Rattle.bus.specs.Types.call-of
 use Rattle.bus.specs.Types.act-of
 use Rattle.bus.specs.Record.{here, lines}
 use Rattle.effect.specs.Stands.{stands}
-use Rattle.effect.specs.Effects.{say, stay, move}
-use Rattle.acceptor_step.specs.AcceptorStep.{taking, hearing, take, acceptorStep}
-use Rattle.bus.specs.Following.{touch, follow}
+use Rattle.effect.specs.Effects.{say, stay, moved}
+use Rattle.acceptor_step.specs.AcceptorStep.{fills, hears, takes, acceptorIn}
+use Rattle.bus.specs.Following.{follow}
+use Rattle.bus.specs.Machine.{viewAt}
 use Rattle.bus.specs.Delivery.{isPut, isEnd, isTake, isHostPut}
 use Rattle.bus.proofs.Invariant.{sentBy, isCommand, codeOf, waits, look, Inv, atnOf, quiet}
 use Rattle.bus.proofs.Change.{weak-look}
@@ -50,6 +51,10 @@ module _ (b : Bus) (I : Inv b) (p : Place) (l : p .0 < b .count) (ns : isSource 
   G : Effect → Type 0
   G e = Good b (call-of.Of p act-of.Step) (follow (atnOf b) b (p .0) e)
 
+  -- what the party sees
+  abbrev seen : View
+  seen = viewAt p (lines b) b
+
   not-active : isActive (here b (p .0)) ≡ false
   not-active = test (isActive (here b (p .0))) (λ h. let z = source-of-active (atnOf b) (here b (p .0)) h in no (cc)) (λ h. h)
 
@@ -59,14 +64,14 @@ module _ (b : Bus) (I : Inv b) (p : Place) (l : p .0 < b .count) (ns : isSource 
   not-mine : isCommand (b .standing) ≡ true → sentBy (p .0) (b .standing) ≡ false
   not-mine c = test (sentBy (p .0) (b .standing)) (λ h. absurd (not-sending (I .pre .sent (p .0) h))) (λ h. h)
 
-  stays : (st : Standing) → b .standing ≡ st → G (stay st (here b (p .0)))
+  stays : G (stay seen)
   unfolding G
-  stays st es = subst (λ (x : Standing). Good b (call-of.Of p act-of.Step) (touch (atnOf b) b (p .0) (stay x (here b (p .0))))) es (stay-good b I p l)
+  stays = stay-good b I p l
 
   hear-good : (s : Place) (k : Kind) (v : ℕ) (e : Bool) → here b (p .0) .acceptor ≡ Acrs → b .standing ≡ Byte s k v e → atnOf b ≡ true
-      → G (hearing v e (b .standing) (here b (p .0)))
+      → G (hears v e seen)
   unfolding G
-  hear-good s k v e ea es t = kept-good b (call-of.Of p act-of.Step) I (p .0) l (hearing v e (b .standing) q .said) new
+  hear-good s k v e ea es t = kept-good b (call-of.Of p act-of.Step) I (p .0) l (hears v e seen .said) new
       (record {
         name = hear-name (meaning v) (q .role);
         act = refl;
@@ -99,7 +104,7 @@ module _ (b : Bus) (I : Inv b) (p : Place) (l : p .0 < b .count) (ns : isSource 
       q = here b (p .0)
 
       new : Party
-      new = hearing v e (b .standing) q .party
+      new = hears v e seen .party
 
       E : TakeEvent (hearEvent (meaning v) (q .role .listen))
       E = hear-event v (q .role .listen)
@@ -115,9 +120,9 @@ module _ (b : Bus) (I : Inv b) (p : Place) (l : p .0 < b .count) (ns : isSource 
       later = look-off (b .standing) (p .0) new (rw (cmd, not-mine cmd))
 
   took-good : (s : Place) (k : Kind) (v : ℕ) (e : Bool) → here b (p .0) .acceptor ≡ Acrs → b .standing ≡ Byte s k v e → atnOf b ≡ false
-      → G (taking v e (b .standing) (here b (p .0)))
+      → G (fills v e seen)
   unfolding G
-  took-good s k v e ea es t = seated-good b (call-of.Of p act-of.Step) I (p .0) l (taking v e (b .standing) (here b (p .0)) .said) (taking v e (b .standing) (here b (p .0)) .party)
+  took-good s k v e ea es t = seated-good b (call-of.Of p act-of.Step) I (p .0) l (fills v e seen .said) (fills v e seen .party)
       (record {
         inactive = not-active;
         name = refl;
@@ -148,7 +153,7 @@ module _ (b : Bus) (I : Inv b) (p : Place) (l : p .0 < b .count) (ns : isSource 
   shift-good : (x : Acceptor) → (stands (b .standing) ≡ true → x ≡ Anrs → ⊥) → (x ≡ Aids → ⊥) → (here b (p .0) .acceptor ≡ Aids → ⊥)
       → waits (b .standing) (p .0) x ≡ waits (b .standing) (p .0) (here b (p .0) .acceptor)
       → (stands (b .standing) ≡ true → x ≡ Acrs → ⊥) → (atnOf b ≡ false → x ≡ Acrs → isFull (here b (p .0) .input) ≡ false) → (here b (p .0) .acceptor ≡ Acrs → ⊥)
-      → G (move (b .standing) (withAcceptor x (here b (p .0))))
+      → G (moved seen (withAcceptor x (here b (p .0))))
   unfolding G
   shift-good x an ai pa c ac em pc = seated-good b (call-of.Of p act-of.Step) I (p .0) l (say ev.Moved 0 false 0) (withAcceptor x (here b (p .0)))
       (record {
@@ -195,22 +200,20 @@ module _ (b : Bus) (I : Inv b) (p : Place) (l : p .0 < b .count) (ns : isSource 
   room false true e h = no (cc)
   room false false e h = refl
 
-  takes : here b (p .0) .acceptor ≡ Acrs → (st : Standing) → b .standing ≡ st → G (take (atnOf b) st (here b (p .0)))
-  takes ea Nothing es = stays Nothing es
-  takes ea (Byte s k v e) es = cond-elim G (atnOf b)
-      (λ t. subst (λ (st : Standing). G (hearing v e st (here b (p .0)))) es (hear-good s k v e ea es t))
-      (λ t. subst (λ (st : Standing). G (taking v e st (here b (p .0)))) es (took-good s k v e ea es t))
+  takes-good : here b (p .0) .acceptor ≡ Acrs → (st : Standing) → b .standing ≡ st → G (takes st seen)
+  takes-good ea Nothing es = stays
+  takes-good ea (Byte s k v e) es = cond-elim G (atnOf b) (hear-good s k v e ea es) (took-good s k v e ea es)
 
-  by-state : (x : Acceptor) → here b (p .0) .acceptor ≡ x → G (acceptorStep x (lines b) (b .standing) (here b (p .0)))
-  by-state Aids ea = stays (b .standing) refl
+  by-state : (x : Acceptor) → here b (p .0) .acceptor ≡ x → G (acceptorIn x seen)
+  by-state Aids ea = stays
   by-state Anrs ea = cond-elim G (atnOf b || not (isFull (here b (p .0) .input)))
       (λ h. shift-good _ (λ _ e. no (cc)) (λ e. no (cc)) (λ e. no (cc)) (nobody (b .standing) Acrs (here b (p .0) .acceptor) (anrs-none ea)) (λ s e. I .pre .noAnrs s (p .0) ea) (λ t _. room (atnOf b) (isFull (here b (p .0) .input)) t h) (λ e. no (cc)))
-      (λ _. stays (b .standing) refl)
-  by-state Acrs ea = cond-elim G (lines b .dav) (λ _. takes ea (b .standing) refl) (λ _. stays (b .standing) refl)
+      (λ _. stays)
+  by-state Acrs ea = cond-elim G (lines b .dav) (λ _. takes-good ea (b .standing) refl) (λ _. stays)
   by-state Acds ea = shift-good _ (λ _ e. no (cc)) (λ e. no (cc)) (λ e. no (cc)) (rw ea) (λ s e. no (cc)) (λ t e. no (cc)) (λ e. no (cc))
-  by-state Awns ea = cond-elim G (lines b .dav) (λ _. stays (b .standing) refl)
+  by-state Awns ea = cond-elim G (lines b .dav) (λ _. stays)
       (λ d. shift-good _ (λ s e. let z = none-stands d in no (cc)) (λ e. no (cc)) (λ e. no (cc)) (nobody (b .standing) Anrs (here b (p .0) .acceptor) (none-stands d)) (λ s e. no (cc)) (λ t e. no (cc)) (λ e. no (cc)))
 
-  pub accept-good : (x : Acceptor) → here b (p .0) .acceptor ≡ x → Good b (call-of.Of p act-of.Step) (follow (atnOf b) b (p .0) (acceptorStep x (lines b) (b .standing) (here b (p .0))))
+  pub accept-good : (x : Acceptor) → here b (p .0) .acceptor ≡ x → Good b (call-of.Of p act-of.Step) (follow (atnOf b) b (p .0) (acceptorIn x seen))
   unfolding G
   accept-good x ea = by-state x ea

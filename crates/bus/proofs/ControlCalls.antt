@@ -20,7 +20,7 @@ use Rattle.role.proofs.Roles.{nameOf, Single, Weak, weak-unaddressed}
 use Rattle.parties.specs.Places.{place, at, each, total}
 use Rattle.parties.specs.Lines.{linesByte}
 use Rattle.parties.proofs.Places.{upd, at-set, at-each-all, length-each, total-set, total-each, total-split}
-use Rattle.bus.specs.Types.{Place, Party, Control, Idle, Standby, Active, Acceptor, Aids, Anrs, Acrs, Acds, Empty, Command, Data, Status, Standing, Nothing, Byte, Bus, Said, Call, Effect}
+use Rattle.bus.specs.Types.{Place, Party, Control, Idle, Standby, Active, Acceptor, Aids, Anrs, Acrs, Acds, Empty, Command, Data, Status, Standing, Nothing, Byte, Bus, Said, Call, Outcome}
 use Rattle.bus.specs.Types.ruling
 use Rattle.bus.specs.Types.ev
 use Rattle.bus.specs.Types.call-of
@@ -28,7 +28,7 @@ use Rattle.bus.specs.Types.act-of
 use Rattle.effect.specs.Words.{isAccepted}
 use Rattle.bus.specs.Record.{here, lines}
 use Rattle.effect.specs.Stands.{sendsCommand}
-use Rattle.effect.specs.Effects.{say, does, quiet}
+use Rattle.effect.specs.Effects.{say, does, stay, quiet, withStanding}
 use Rattle.bus.specs.Settling.{settle, settleAs, deserted}
 use Rattle.host_calls.specs.HostCalls.{controlled, resetAcceptor, tell}
 use Rattle.bus.specs.Following.{alarm, touch, follow}
@@ -98,7 +98,7 @@ module _ (b : Bus) (I : Inv b) (p : Place) where
 
   -- who is in charge comes to control c: attention follows
   controlled-good : (c : Call) (x : Control) → wrote c ruling.Accepted ≡ 0 → p .0 < b .count → busy (here b (p .0) .control) ≡ true → sendsCommand (p .0) (b .standing) ≡ false
-      → Good b c (alarm b (p .0) (controlled x (viewAt p (lines b) b)))
+      → Good b c (alarm b (p .0) (withStanding (b .standing) (controlled x (viewAt p (lines b) b))))
   controlled-good c x w l h f = alarm-good b c I (heldBytes (here b (p .0))) (set (b .parties) (p .0) new) (set-len b I (p .0) new)
       (raw-set b I (p .0) l new (quietly h f) refl (λ _. h) (λ y. y) (I .pre .apart (p .0)))
       (let k = set-held b I (p .0) l new in rw w (omega arith))
@@ -119,7 +119,7 @@ module _ (b : Bus) (I : Inv b) (p : Place) where
 
   -- reset of a party that is not active
   reset-off : p .0 < b .count → isActive (here b (p .0)) ≡ false
-      → Good b (call-of.Of p act-of.Reset) (touch (atnOf b) b (p .0) (quiet (heldBytes (here b (p .0))) (b .standing) (withAcceptor (resetAcceptor (lines b)) (wiped (here b (p .0))))))
+      → Good b (call-of.Of p act-of.Reset) (touch (atnOf b) b (p .0) (withStanding (b .standing) (quiet (heldBytes (here b (p .0))) (withAcceptor (resetAcceptor (lines b)) (wiped (here b (p .0)))))))
   reset-off l na = kept-good b (call-of.Of p act-of.Reset) I (p .0) l (say ev.None 0 false (heldBytes (here b (p .0)))) new
       (record {
         name = refl;
@@ -179,7 +179,7 @@ module _ (b : Bus) (I : Inv b) (p : Place) where
   pub reset-good : isAccepted (refusal (lines b) b (call-of.Of p act-of.Reset)) ≡ true → Good b (call-of.Of p act-of.Reset) (accepted (lines b) b (call-of.Of p act-of.Reset))
   reset-good ok = let r = known b p (cond (sendsCommand (p .0) (b .standing)) ruling.Standing ruling.Accepted) ok in
       let f = if-not (sendsCommand (p .0) (b .standing)) ruling.Accepted ruling.Standing refl (r .1) .0 in
-      cond-elim (λ (e : Effect). Good b (call-of.Of p act-of.Reset) (follow (atnOf b) b (p .0) e)) (isActive (here b (p .0)))
+      cond-elim (λ (o : Outcome). Good b (call-of.Of p act-of.Reset) (follow (atnOf b) b (p .0) (withStanding (b .standing) o))) (isActive (here b (p .0)))
       (λ e. alarm-good b (call-of.Of p act-of.Reset) I (heldBytes (here b (p .0))) (set (b .parties) (p .0) new) (set-len b I (p .0) new)
       (raw-set b I (p .0) (r .0) new (quietly (active-busy (here b (p .0)) e) f) refl (λ x. no (cc)) (λ x. no (cc)) (λ x. no (cc)))
       (let k = set-held b I (p .0) (r .0) new in omega arith))
@@ -280,8 +280,8 @@ report-good b I c s d k w = subst (λ (ps : List Party). Good b c (settle (atnOf
     shape true e = breaks put end refl (deserted-stands t (b .parties) (b .standing) e) refl
 
 -- lines and drivers
-pub lines-good : (b : Bus) → Inv b → Good b call-of.Lines (touch (atnOf b) b 0 (tell (viewAt (place 0) (lines b) b)))
+pub lines-good : (b : Bus) → Inv b → Good b call-of.Lines (touch (atnOf b) b 0 (withStanding (b .standing) (tell (viewAt (place 0) (lines b) b))))
 lines-good b I = report-good b I call-of.Lines (say ev.Lines (linesByte (lines b)) false 0) refl refl refl
 
-pub drivers-good : (b : Bus) → Inv b → Good b call-of.Drivers (touch (atnOf b) b 0 (quiet 0 (b .standing) (here b 0)))
+pub drivers-good : (b : Bus) → Inv b → Good b call-of.Drivers (touch (atnOf b) b 0 (stay (viewAt (place 0) (lines b) b)))
 drivers-good b I = report-good b I call-of.Drivers (say ev.None 0 false 0) refl refl refl

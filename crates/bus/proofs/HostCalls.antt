@@ -14,8 +14,8 @@ use Rattle.bus.specs.Types.call-of
 use Rattle.bus.specs.Types.act-of
 use Rattle.effect.specs.Words.{isAccepted}
 use Rattle.bus.specs.Record.{here, lines}
-use Rattle.effect.specs.Effects.{say, does}
-use Rattle.host_calls.specs.HostCalls.{read, pollRegister, secondRequest, drop}
+use Rattle.effect.specs.Effects.{say, does, withStanding}
+use Rattle.host_calls.specs.HostCalls.{readOut, pollRegister, secondRequest, dropHeld}
 use Rattle.bus.specs.Following.{touch, follow}
 use Rattle.refusals.specs.Refusals.{ofSwitch}
 use Rattle.effect.specs.Calls.{isOn}
@@ -44,7 +44,7 @@ module _ (b : Bus) (I : Inv b) (p : Place) where
       taken x y l = plain-good b (call-of.Of p act-of.Read) I (p .0) l (say ev.Read x y 0) (withInput Empty (here b (p .0)))
           (plainly (here b (p .0)) (withInput Empty (here b (p .0))) refl refl refl refl (λ x. refl)) (λ j x. no (cc)) refl refl refl refl
 
-      go : p .0 < b .count → (s : Slot) → Good b (call-of.Of p act-of.Read) (follow (atnOf b) b (p .0) (read s (viewAt p (lines b) b)))
+      go : p .0 < b .count → (s : Slot) → Good b (call-of.Of p act-of.Read) (follow (atnOf b) b (p .0) (withStanding (b .standing) (readOut s (here b (p .0)))))
       go l Empty = plain-good b (call-of.Of p act-of.Read) I (p .0) l (say ev.None 0 false 0) (here b (p .0)) (plainly (here b (p .0)) (here b (p .0)) refl refl refl refl (λ x. x)) (λ j x. no (cc)) refl refl refl refl
       go l (Full v e) = taken v e l
 
@@ -63,5 +63,5 @@ module _ (b : Bus) (I : Inv b) (p : Place) where
       new = secondRequest (isOn on) (viewAt p (lines b) b) .party
 
   pub drop-good : isAccepted (refusal (lines b) b (call-of.Of p act-of.Drop)) ≡ true → Good b (call-of.Of p act-of.Drop) (accepted (lines b) b (call-of.Of p act-of.Drop))
-  drop-good ok = plain-good b (call-of.Of p act-of.Drop) I (p .0) (known b p ruling.Accepted ok .0) (drop (viewAt p (lines b) b) .said) (drop (viewAt p (lines b) b) .party)
-      (plainly (here b (p .0)) (drop (viewAt p (lines b) b) .party) refl refl refl refl (λ x. x)) (λ j x. no (cc)) refl refl refl (omega arith)
+  drop-good ok = plain-good b (call-of.Of p act-of.Drop) I (p .0) (known b p ruling.Accepted ok .0) (dropHeld (viewAt p (lines b) b) .said) (dropHeld (viewAt p (lines b) b) .party)
+      (plainly (here b (p .0)) (dropHeld (viewAt p (lines b) b) .party) refl refl refl refl (λ x. x)) (λ j x. no (cc)) refl refl refl (omega arith)

@@ -17,11 +17,11 @@ use Rattle.bus.specs.Types.ev
 use Rattle.bus.specs.Types.call-of
 use Rattle.bus.specs.Types.act-of
 use Rattle.effect.specs.Words.{isAccepted}
-use Rattle.bus.specs.Record.{here}
+use Rattle.bus.specs.Record.{here, lines}
 use Rattle.effect.specs.Stands.{stands}
 use Rattle.effect.specs.Effects.{say, does, stay}
 use Rattle.bus.specs.Following.{touch}
-use Rattle.bus.specs.Machine.{judged}
+use Rattle.bus.specs.Machine.{viewAt, judged}
 use Rattle.bus.specs.Delivery.{isPut, isEnd, isTake, isHostPut, isWrite, wrote}
 use Rattle.bus.proofs.Invariant.{look, Inv, atnOf}
 use Rattle.bus.proofs.Change.{Kept, weak-look}
@@ -131,5 +131,5 @@ module _ (b : Bus) (I : Inv b) (p : Place) (l : p .0 < b .count) where
   pub step-caller : Caller (call-of.Of p act-of.Step) (p .0)
   step-caller j e = cc
 
-  pub stay-good : Good b (call-of.Of p act-of.Step) (touch (atnOf b) b (p .0) (stay (b .standing) (here b (p .0))))
+  pub stay-good : Good b (call-of.Of p act-of.Step) (touch (atnOf b) b (p .0) (stay (viewAt p (lines b) b)))
   stay-good = plain-good b (call-of.Of p act-of.Step) I (p .0) l (say ev.None 0 false 0) (here b (p .0)) (plain-same (here b (p .0))) step-caller refl refl refl refl

@@ -16,17 +16,18 @@ use Rattle.role.proofs.Logic.{no, cond-elim}
 use Rattle.party.proofs.Settled.{source-case}
 use Rattle.parties.specs.Places.{place, otherTalker}
 use Rattle.parties.proofs.Places.{some-none}
-use Rattle.bus.specs.Types.{Place, Party, Source, Sids, Sgns, Sdys, Strs, Slot, Empty, Full, Kind, Command, Data, Status, Event, Found, Nowhere, At, Standing, Nothing, Byte, Bus, After, Effect}
+use Rattle.bus.specs.Types.{Place, Party, Source, Sids, Sgns, Sdys, Strs, Slot, Empty, Full, Kind, Command, Data, Status, Event, Found, Nowhere, At, Standing, Nothing, Byte, Bus, After, Effect, View}
 use Rattle.bus.specs.Types.ev
 use Rattle.bus.specs.Types.after
 use Rattle.bus.specs.Types.call-of
 use Rattle.bus.specs.Types.act-of
 use Rattle.bus.specs.Record.{here, lines}
 use Rattle.effect.specs.Stands.{ofCommand}
-use Rattle.effect.specs.Effects.{say, does, stay, move}
-use Rattle.source_step.specs.SourceStep.{put, noacc, ready, passTo, ended, sourceStep}
+use Rattle.effect.specs.Effects.{say, does, stay, moved}
+use Rattle.source_step.specs.SourceStep.{put, noacc, ready, passTo, ended, sourceIn}
 use Rattle.party.specs.Hearing.{heardBy}
 use Rattle.bus.specs.Following.{touch, follow}
+use Rattle.bus.specs.Machine.{viewAt}
 use Rattle.bus.specs.Delivery.{isPut, isEnd, isTake, isHostPut}
 use Rattle.bus.proofs.Invariant.{sentBy, look, look-idle, Pre, Inv, atnOf, quiet}
 use Rattle.bus.proofs.Putting.{Fit, put-pre, end-pre, nothing-stands, look-on}
@@ -57,6 +58,10 @@ module _ (b : Bus) (I : Inv b) (p : Place) (l : p .0 < b .count) (so : isSource 
   G : Effect → Type 0
   G e = Good b (call-of.Of p act-of.Step) (follow (atnOf b) b (p .0) e)
 
+  -- what the party sees
+  abbrev seen : View
+  seen = viewAt p (lines b) b
+
   kind : Kind
   kind = kindOf (isActive (here b (p .0))) (isPolled (atnOf b) (here b (p .0)))
 
@@ -78,14 +83,14 @@ module _ (b : Bus) (I : Inv b) (p : Place) (l : p .0 < b .count) (so : isSource 
       held : isPolled (atnOf b) (here b (p .0)) ≡ false → offer (isPolled (atnOf b) (here b (p .0))) (here b (p .0)) ≡ here b (p .0) .held
       held h = rw h
 
-  stays : G (stay (b .standing) (here b (p .0)))
+  stays : G (stay seen)
   unfolding G
   stays = stay-good b I p l
 
   -- a source that is not in STRS, and does not come to it, moves
-  moved : (s : Source) → (s ≡ Strs → ⊥) → (here b (p .0) .source ≡ Strs → ⊥) → G (move (b .standing) (withSource s (here b (p .0))))
+  moves : (s : Source) → (s ≡ Strs → ⊥) → (here b (p .0) .source ≡ Strs → ⊥) → G (moved seen (withSource s (here b (p .0))))
   unfolding G
-  moved s n m = plain-good b (call-of.Of p act-of.Step) I (p .0) l (say ev.Moved 0 false 0) (withSource s (here b (p .0))) (plain-source (here b (p .0)) (here b (p .0)) s (plain-same (here b (p .0))) n m) (step-caller b I p l) refl refl refl refl
+  moves s n m = plain-good b (call-of.Of p act-of.Step) I (p .0) l (say ev.Moved 0 false 0) (withSource s (here b (p .0))) (plain-source (here b (p .0)) (here b (p .0)) s (plain-same (here b (p .0))) n m) (step-caller b I p l) refl refl refl refl
 
   module _ (sd : here b (p .0) .source ≡ Sdys) where
     put-with : (x : Event) (new : Party) (k : Kind) (v : ℕ) (y : Bool) → isPut x ≡ true → isEnd x ≡ false → isTake x ≡ false
@@ -102,26 +107,26 @@ module _ (b : Bus) (I : Inv b) (p : Place) (l : p .0 < b .count) (so : isSource 
         none : b .standing ≡ Nothing
         none = nothing-stands (b .count) (atnOf b) (here b) (b .standing) (I .pre) (quiet b I) (p .0) so not-strs
 
-    put-kind : (k : Kind) (v : ℕ) (e : Bool) → kind ≡ k → offer (isPolled (atnOf b) (here b (p .0))) (here b (p .0)) ≡ Full v e → lines b .nrfd ≡ false → G (put k v e p (here b (p .0)))
+    put-kind : (k : Kind) (v : ℕ) (e : Bool) → kind ≡ k → offer (isPolled (atnOf b) (here b (p .0))) (here b (p .0)) ≡ Full v e → lines b .nrfd ≡ false → G (put k v e seen)
     unfolding kind G
     put-kind Command v e ek eo nr = let a = kind-command (isActive (here b (p .0))) (isPolled (atnOf b) (here b (p .0))) ek in
         let t = I .pre .atnIf (p .0) a in
         let u = atn-unpolled (atnOf b) (here b (p .0)) t in
-        put-with _ (put Command v e p (here b (p .0)) .party) Command v false refl refl refl refl refl refl refl refl
+        put-with _ (put Command v e seen .party) Command v false refl refl refl refl refl refl refl refl
         (record { command = sym t; leads = λ _. a; plain = λ h. no (cc); status = sym u }) nr (from-held v e u eo)
     put-kind Data v e ek eo nr = let a = kind-data (isActive (here b (p .0))) (isPolled (atnOf b) (here b (p .0))) ek in
-        put-with _ (put Data v e p (here b (p .0)) .party) Data v e refl refl refl refl refl refl refl refl
+        put-with _ (put Data v e seen .party) Data v e refl refl refl refl refl refl refl refl
         (record { command = sym (atn-off (a .0)); leads = λ h. no (cc); plain = λ h. refl; status = sym (a .1) }) nr (from-held v e (a .1) eo)
     put-kind Status v e ek eo nr = let a = kind-status (isActive (here b (p .0))) (isPolled (atnOf b) (here b (p .0))) ek in
-        put-with _ (put Status v e p (here b (p .0)) .party) Status v false refl refl refl refl refl refl refl refl
+        put-with _ (put Status v e seen .party) Status v false refl refl refl refl refl refl refl refl
         (record { command = sym (atn-off (a .0)); leads = λ h. no (cc); plain = λ h. no (cc); status = sym (a .1) }) nr (omega arith)
 
-    noacc-good : (k : Kind) (v : ℕ) (e : Bool) → G (noacc k v e (b .standing) (here b (p .0)))
+    noacc-good : (k : Kind) (v : ℕ) (e : Bool) → G (noacc k v e seen)
     unfolding G
     noacc-good k v e = plain-good b (call-of.Of p act-of.Step) I (p .0) l (say ev.Noacc v (endOf k e) 0) (here b (p .0)) (plain-same (here b (p .0))) (step-caller b I p l) refl refl refl refl
 
-    ready-good : (o : Slot) → offer (isPolled (atnOf b) (here b (p .0))) (here b (p .0)) ≡ o → G (ready o kind (lines b) (b .standing) p (here b (p .0)))
-    ready-good Empty eo = moved Sgns (λ e. no (cc)) (λ e. no (cc))
+    ready-good : (o : Slot) → offer (isPolled (atnOf b) (here b (p .0))) (here b (p .0)) ≡ o → G (ready o kind seen)
+    ready-good Empty eo = moves Sgns (λ e. no (cc)) (λ e. no (cc))
     ready-good (Full v e) eo = cond-elim G (lines b .nrfd) (λ _. stays)
         (λ nr. cond-elim G (lines b .ndac) (λ _. put-kind kind v e refl eo nr) (λ _. noacc-good kind v e))
 
@@ -143,7 +148,7 @@ module _ (b : Bus) (I : Inv b) (p : Place) (l : p .0 < b .count) (so : isSource 
     plain-end : (k : Kind) (v : ℕ) (e : Bool) → ofCommand k ≡ false → b .standing ≡ Byte p k v e → Good b (call-of.Of p act-of.Step) (touch (atnOf b) b (p .0) (does (say ev.Ended v e 0) (withSource Sgns (here b (p .0))) Nothing))
     plain-end k v e n es = over-good (withSource Sgns (here b (p .0))) k v e es (sym (look-idle (b .standing) (rw es n) (p .0) (here b (p .0)))) refl refl refl refl refl
 
-    command-end : (v : ℕ) (e : Bool) → b .standing ≡ Byte p Command v e → G (ended talker (Byte p Command v e) (here b (p .0)))
+    command-end : (v : ℕ) (e : Bool) → b .standing ≡ Byte p Command v e → G (ended (Byte p Command v e) seen)
     unfolding G talker
     command-end v e es = go talker refl (passesControl (meaning v)) refl
       where
@@ -161,20 +166,20 @@ module _ (b : Bus) (I : Inv b) (p : Place) (l : p .0 < b .count) (so : isSource 
         go (At j) h false ez = just after.Settle
         go (At j) h true ez = pass-to b I p l v e es nd ez (after.Pass j) j h
 
-    ended-good : (x : Standing) → b .standing ≡ x → G (ended talker x (here b (p .0)))
+    ended-good : (x : Standing) → b .standing ≡ x → G (ended x seen)
     unfolding G
-    ended-good Nothing es = subst (λ (x : Standing). Good b (call-of.Of p act-of.Step) (touch (atnOf b) b (p .0) (stay x (here b (p .0))))) es (stay-good b I p l)
+    ended-good Nothing es = stay-good b I p l
     ended-good (Byte s Command v e) es = command-end v e (its-sender s Command v e es)
     ended-good (Byte s Data v e) es = plain-end Data v e refl (its-sender s Data v e es)
     ended-good (Byte s Status v e) es = plain-end Status v e refl (its-sender s Status v e es)
 
-  by-state : (x : Source) → here b (p .0) .source ≡ x → G (sourceStep x (offer (isPolled (atnOf b) (here b (p .0))) (here b (p .0))) kind (lines b) talker (b .standing) p (here b (p .0)))
+  by-state : (x : Source) → here b (p .0) .source ≡ x → G (sourceIn x (offer (isPolled (atnOf b) (here b (p .0))) (here b (p .0))) kind seen)
   by-state Sids ex = stays
-  by-state Sgns ex = cond-elim G (isFull (offer (isPolled (atnOf b) (here b (p .0))) (here b (p .0)))) (λ _. moved Sdys (λ e. no (cc)) (λ e. no (cc))) (λ _. stays)
+  by-state Sgns ex = cond-elim G (isFull (offer (isPolled (atnOf b) (here b (p .0))) (here b (p .0)))) (λ _. moves Sdys (λ e. no (cc)) (λ e. no (cc))) (λ _. stays)
   by-state Sdys ex = ready-good ex (offer (isPolled (atnOf b) (here b (p .0))) (here b (p .0))) refl
   by-state Strs ex = cond-elim G (lines b .ndac) (λ _. stays) (λ nd. ended-good ex nd (b .standing) refl)
 
   pub source-good : (x : Source) → here b (p .0) .source ≡ x
-      → Good b (call-of.Of p act-of.Step) (follow (atnOf b) b (p .0) (sourceStep x (offer (isPolled (atnOf b) (here b (p .0))) (here b (p .0))) (kindOf (isActive (here b (p .0))) (isPolled (atnOf b) (here b (p .0)))) (lines b) (otherTalker (b .count) (p .0) (b .parties)) (b .standing) p (here b (p .0))))
+      → Good b (call-of.Of p act-of.Step) (follow (atnOf b) b (p .0) (sourceIn x (offer (isPolled (atnOf b) (here b (p .0))) (here b (p .0))) (kindOf (isActive (here b (p .0))) (isPolled (atnOf b) (here b (p .0)))) seen))
   unfolding G kind talker
   source-good x ex = by-state x ex

@@ -35,5 +35,6 @@ pub use Rattle.effect.specs.declared.Act.the-variants as act-of
 pub use Rattle.effect.specs.declared.Said.{Said}
 pub use Rattle.effect.specs.declared.After.{After}
 pub use Rattle.effect.specs.declared.After.the-variants as after
+pub use Rattle.effect.specs.declared.Outcome.{Outcome}
 pub use Rattle.effect.specs.declared.Effect.{Effect}
 pub use Rattle.effect.specs.declared.View.{View}

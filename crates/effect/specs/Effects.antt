@@ -2,7 +2,7 @@
 -- Assumes nothing.
 use Prim.Native.Nat.{ℕ}
 use mathlib.Core.Bool.{Bool, false}
-use Rattle.effect.specs.Types.{Party, Standing, Event, Said, After, Effect}
+use Rattle.effect.specs.Types.{Party, Standing, Event, Said, After, Outcome, Effect, View}
 use Rattle.effect.specs.Types.ev
 use Rattle.effect.specs.Types.after
 
@@ -13,17 +13,21 @@ say x v e d = record { event = x; byte = v; end = e; dropped = d }
 abbrev pub does : Said → Party → Standing → Effect
 does s p st = record { said = s; after = after.Settle; party = p; standing = st }
 
--- The same effect, with something else to follow.
-abbrev pub then : After → Effect → Effect
-then x e = record { said = e .said; after = x; party = e .party; standing = e .standing }
+-- A step with no event; "moved (a step that changed the party's source or acceptor state and has no other event)".
+abbrev pub stay : View → Effect
+stay v = does (say ev.None 0 false 0) (v .party) (v .standing)
 
--- No event; "moved (a step that changed the party's source or acceptor state and has no other event)".
-abbrev pub stay : Standing → Party → Effect
-stay st p = does (say ev.None 0 false 0) p st
+abbrev pub moved : View → Party → Effect
+moved v q = does (say ev.Moved 0 false 0) q (v .standing)
 
-abbrev pub move : Standing → Party → Effect
-move st p = does (say ev.Moved 0 false 0) p st
+-- "An accepted host call other than read and lines has event none": one that drops d held bytes and says nothing more.
+abbrev pub quiet : ℕ → Party → Outcome
+quiet d q = record { said = say ev.None 0 false d; after = after.Settle; party = q }
 
--- "An accepted host call other than read and lines has event none": an effect that drops d held bytes and says nothing more.
-abbrev pub quiet : ℕ → Standing → Party → Effect
-quiet d st p = does (say ev.None 0 false d) p st
+-- The same, with something else to follow.
+abbrev pub then : After → Outcome → Outcome
+then x o = record { said = o .said; after = x; party = o .party }
+
+-- What a host call does on a bus on which st stands: it lets that stand.
+abbrev pub withStanding : Standing → Outcome → Effect
+withStanding st o = record { said = o .said; after = o .after; party = o .party; standing = st }

@@ -1,10 +1,12 @@
 // What a call does to its own party and to what stands.
 ghost use mathlib.Core.Path.{_≡_};
-ghost use Rattle.effect.specs.Effects.{say, does, then, stay, move, quiet};
+ghost use Rattle.effect.specs.Effects.{say, does, stay, moved, quiet, then, withStanding};
 use crate::After;
 use crate::Effect;
+use crate::Outcome;
 use crate::Said;
 use crate::Standing;
+use crate::View;
 use event::Event;
 use party::Party;
 
@@ -33,43 +35,61 @@ impl Effect {
             standing,
         }
     }
+}
 
-    // The same effect, with something else to follow.
-    pub fn then(self, after: After) -> Effect
+impl View {
+    // Nothing happens.
+    pub fn stay(self) -> Effect
+        ensures { λ r. ⌜ r ≡ stay self ⌝ }
+    {
+        let party = self.party;
+        let standing = self.standing;
+        Effect::does(Said::say(Event::None, 0, false, 0), party, standing)
+    }
+
+    // The party has moved, and no more is to be said.
+    pub fn moved(self, party: Party) -> Effect
+        ensures { λ r. ⌜ r ≡ moved self party ⌝ }
+    {
+        let standing = self.standing;
+        Effect::does(Said::say(Event::Moved, 0, false, 0), party, standing)
+    }
+}
+
+impl Outcome {
+    // Nothing is said but how many held bytes were dropped, and settling follows.
+    pub fn quiet(dropped: u8, party: Party) -> Outcome
+        ensures { λ r. ⌜ r ≡ quiet dropped party ⌝ }
+    {
+        Outcome {
+            said: Said::say(Event::None, 0, false, dropped),
+            after: After::Settle,
+            party,
+        }
+    }
+
+    // The same, with something else to follow.
+    pub fn then(self, after: After) -> Outcome
         ensures { λ r. ⌜ r ≡ then after self ⌝ }
     {
-        let Effect {
+        let Outcome {
             said,
             after: _,
             party,
-            standing,
         } = self;
+        Outcome { said, after, party }
+    }
+
+    // The effect on a bus on which this stands.
+    pub fn with_standing(self, standing: Standing) -> Effect
+        ensures { λ r. ⌜ r ≡ withStanding standing self ⌝ }
+    {
+        let Outcome { said, after, party } = self;
         Effect {
             said,
             after,
             party,
             standing,
         }
-    }
-
-    // Nothing happens.
-    pub fn stay(standing: Standing, party: Party) -> Effect
-        ensures { λ r. ⌜ r ≡ stay standing party ⌝ }
-    {
-        Effect::does(Said::say(Event::None, 0, false, 0), party, standing)
-    }
-
-    // The party has moved, and no more is to be said.
-    pub fn moved(standing: Standing, party: Party) -> Effect
-        ensures { λ r. ⌜ r ≡ move standing party ⌝ }
-    {
-        Effect::does(Said::say(Event::Moved, 0, false, 0), party, standing)
-    }
-
-    // A host call that says nothing but how many held bytes were dropped.
-    pub fn quiet(dropped: u8, standing: Standing, party: Party) -> Effect
-        ensures { λ r. ⌜ r ≡ quiet dropped standing party ⌝ }
-    {
-        Effect::does(Said::say(Event::None, 0, false, dropped), party, standing)
     }
 }

@@ -88,7 +88,14 @@ pub enum After {
     Clear,
 }
 
-// What a call does to its own party and to what stands, and what is to follow.
+// What a host call does: what it says, what follows, and its party. None of them changes what stands.
+pub struct Outcome {
+    pub said: Said,
+    pub after: After,
+    pub party: Party,
+}
+
+// What any call does to its own party and to what stands, and what is to follow.
 pub struct Effect {
     pub said: Said,
     pub after: After,

@@ -1,4 +1,5 @@
--- The host's calls, once they are accepted (document 01, "The host's calls"). Each is an effect on the party that it names.
+-- The host's calls, once they are accepted (document 01, "The host's calls"): what each says, what follows, and its party.
+-- None of them changes what stands.
 -- Assumes nothing.
 use Prim.Native.Nat.{ℕ}
 use mathlib.Core.Bool.{Bool, false, cond}
@@ -9,31 +10,35 @@ use Rattle.party.specs.Driving.{isActive}
 use Rattle.party.specs.Clearing.{wiped, cleared}
 use Rattle.party.specs.Settling.{changeControl}
 use Rattle.parties.specs.Lines.{linesByte}
-use Rattle.host_calls.specs.Types.{Request, Acceptor, Aids, Anrs, Awns, Control, Active, Slot, Empty, Full, Lines, Effect, View}
+use Rattle.host_calls.specs.Types.{Request, Acceptor, Aids, Anrs, Awns, Control, Active, Slot, Empty, Full}
+use Rattle.host_calls.specs.Types.{Party, Lines, Outcome, View}
 use Rattle.host_calls.specs.Types.ev
 use Rattle.host_calls.specs.Types.after
-use Rattle.effect.specs.Effects.{say, does, then, stay, quiet}
+use Rattle.effect.specs.Effects.{say, then, quiet}
 
 -- "Write data (byte, END): held."
-abbrev pub write : ℕ → Bool → View → Effect
-write x e v = quiet 0 (v .standing) (withHeld (Full x e) (v .party))
+abbrev pub write : ℕ → Bool → View → Outcome
+write x e v = quiet 0 (withHeld (Full x e) (v .party))
 
 -- "Read data: gives data-in, empties it."
-abbrev pub read : Slot → View → Effect
-read Empty v = stay (v .standing) (v .party)
-read (Full x e) v = does (say ev.Read x e 0) (withInput Empty (v .party)) (v .standing)
+abbrev pub readOut : Slot → Party → Outcome
+readOut Empty p = quiet 0 p
+readOut (Full x e) p = record { said = say ev.Read x e 0; after = after.Settle; party = withInput Empty p }
+
+abbrev pub read : View → Outcome
+read v = readOut (v .party .input) (v .party)
 
 -- A call that writes of its party the request for service alone.
-abbrev pub asking : Request → View → Effect
-asking q v = quiet 0 (v .standing) (withRequest q (v .party))
+abbrev pub asks : Request → Party → Outcome
+asks q p = quiet 0 (withRequest q p)
 
 -- "Poll register: sets saved."
-abbrev pub pollRegister : ℕ → View → Effect
-pollRegister x v = asking (withSaved x (v .party .request)) v
+abbrev pub pollRegister : ℕ → View → Outcome
+pollRegister x v = let p = v .party in asks (withSaved x (p .request)) p
 
 -- "A new host call switches it with 0 or 1." (document 02, Q-5)
-abbrev pub secondRequest : Bool → View → Effect
-secondRequest on v = asking (withRsv2 on (v .party .request)) v
+abbrev pub secondRequest : Bool → View → Outcome
+secondRequest on v = let p = v .party in asks (withRsv2 on (p .request)) p
 
 -- "the acceptor goes to AWNS when DAV is true, else ANRS"
 abbrev pub joining : Bool → Acceptor
@@ -43,36 +48,38 @@ joining dav = cond dav Awns Anrs
 abbrev pub listenAcceptor : Bool → Bool → Lines → Acceptor → Acceptor
 listenAcceptor on was l a = cond (l .atn) a (cond on (cond was a (joining (l .dav))) Aids)
 
-abbrev pub listenOnly : Bool → View → Effect
-listenOnly on v = let p = v .party in quiet 0 (v .standing) (withRole (withFlags (p .role .talk) on (p .role)) (withAcceptor (listenAcceptor on (p .role .listen) (v .lines) (p .acceptor)) p))
+abbrev pub listenOnly : Bool → View → Outcome
+listenOnly on v = let p = v .party in
+    quiet 0 (withRole (withFlags (p .role .talk) on (p .role)) (withAcceptor (listenAcceptor on (p .role .listen) (v .lines) (p .acceptor)) p))
 
 -- "Talk-only on, off: the flag."
-abbrev pub talkOnly : Bool → View → Effect
-talkOnly on v = let p = v .party in quiet 0 (v .standing) (withRole (withFlags on (p .role .listen) (p .role)) p)
+abbrev pub talkOnly : Bool → View → Outcome
+talkOnly on v = let p = v .party in quiet 0 (withRole (withFlags on (p .role .listen) (p .role)) p)
 
 -- "Take control: standby to active. Go to standby: active to standby." Attention follows, and what is held is dropped.
-abbrev pub controlled : Control → View → Effect
-controlled c v = then after.Attend (quiet (heldBytes (v .party)) (v .standing) (changeControl c (v .party)))
+abbrev pub controlled : Control → View → Outcome
+controlled c v = then after.Attend (quiet (heldBytes (v .party)) (changeControl c (v .party)))
 
 -- "Drop: the held byte, if there is one, goes (dropped)."
-abbrev pub drop : View → Effect
-drop v = quiet (heldBytes (v .party)) (v .standing) (withHeld Empty (v .party))
+abbrev pub dropHeld : View → Outcome
+dropHeld v = quiet (heldBytes (v .party)) (withHeld Empty (v .party))
 
 -- "then, unless it was active, AIDS if ATN is false, else AWNS when DAV is true, else ANRS"
 abbrev pub resetAcceptor : Lines → Acceptor
 resetAcceptor l = cond (l .atn) (joining (l .dav)) Aids
 
 -- "Reset: flags off, control idle, held byte dropped, data-in emptied, poll register kept": attention follows if it was active.
-abbrev pub resetAs : Bool → View → Effect
-resetAs active v = let p = v .party in cond active (then after.Attend (quiet (heldBytes p) (v .standing) (wiped p))) (quiet (heldBytes p) (v .standing) (withAcceptor (resetAcceptor (v .lines)) (wiped p)))
+abbrev pub resetAs : Bool → View → Outcome
+resetAs active v = let p = v .party in
+    cond active (then after.Attend (quiet (heldBytes p) (wiped p))) (quiet (heldBytes p) (withAcceptor (resetAcceptor (v .lines)) (wiped p)))
 
-abbrev pub reset : View → Effect
+abbrev pub reset : View → Outcome
 reset v = resetAs (isActive (v .party)) v
 
 -- "the system party active, its held byte dropped"; what is dropped in all is said when every party is cleared.
-abbrev pub clear : View → Effect
-clear v = then after.Clear (quiet 0 (v .standing) (changeControl Active (cleared (v .party))))
+abbrev pub clear : View → Outcome
+clear v = then after.Clear (quiet 0 (changeControl Active (cleared (v .party))))
 
 -- "The event lines carries the lines answer with END 0".
-abbrev pub tell : View → Effect
-tell v = does (say ev.Lines (linesByte (v .lines)) false 0) (v .party) (v .standing)
+abbrev pub tell : View → Outcome
+tell v = record { said = say ev.Lines (linesByte (v .lines)) false 0; after = after.Settle; party = v .party }

@@ -9,7 +9,6 @@ pub use Rattle.event.specs.declared.Event.the-variants as ev
 pub use Rattle.service.specs.declared.Request.{Request}
 pub use Rattle.party.specs.declared.Party.{Party}
 pub use Rattle.parties.specs.declared.Lines.{Lines}
-pub use Rattle.effect.specs.declared.Standing.{Standing}
 pub use Rattle.effect.specs.declared.After.the-variants as after
-pub use Rattle.effect.specs.declared.Effect.{Effect}
+pub use Rattle.effect.specs.declared.Outcome.{Outcome}
 pub use Rattle.effect.specs.declared.View.{View}

@@ -1,8 +1,10 @@
 // What the host's calls do to their own party, once they are accepted.
 ghost use mathlib.Core.Path.{_≡_};
-ghost use Rattle.host_calls.specs.HostCalls.{read, asking, listenAcceptor, listenOnly, controlled, resetAcceptor, reset};
+ghost use Rattle.host_calls.specs.HostCalls.{write, read, asks, pollRegister, secondRequest, listenAcceptor};
+ghost use Rattle.host_calls.specs.HostCalls.{listenOnly, talkOnly, controlled, dropHeld, resetAcceptor, reset};
+ghost use Rattle.host_calls.specs.HostCalls.{clear, tell};
 use effect::After;
-use effect::Effect;
+use effect::Outcome;
 use effect::Said;
 use effect::View;
 use event::Event;
@@ -10,35 +12,56 @@ use offer::Slot;
 use parties::Lines;
 use party::Acceptor;
 use party::Control;
+use party::Party;
 use service::Request;
 
-pub fn taken_out(v: View) -> Effect
-    ensures { λ r. ⌜ r ≡ read (v .party .input) v ⌝ }
+pub fn write(byte: u8, end: bool, v: View) -> Outcome
+    ensures { λ r. ⌜ r ≡ write byte end v ⌝ }
 {
-    let st = v.standing;
+    let p = v.party;
+    Outcome::quiet(0, p.with_held(Slot::Full(byte, end)))
+}
+
+pub fn read(v: View) -> Outcome
+    ensures { λ r. ⌜ r ≡ read v ⌝ }
+{
     let p = v.party;
     let input = p.input;
     match input {
-        Slot::Empty => Effect::stay(st, p),
-        Slot::Full(x, e) => Effect::does(
-            Said::say(Event::Read, x, e, 0),
-            p.with_input(Slot::Empty),
-            st,
-        ),
+        Slot::Empty => Outcome::quiet(0, p),
+        Slot::Full(byte, end) => Outcome {
+            said: Said::say(Event::Read, byte, end, 0),
+            after: After::Settle,
+            party: p.with_input(Slot::Empty),
+        },
     }
 }
 
-// The poll register is written, or the second request bit switched.
-pub fn asking(request: Request, v: View) -> Effect
-    ensures { λ r. ⌜ r ≡ asking request v ⌝ }
+// A party that asks for service by this request.
+fn asks(request: Request, p: Party) -> Outcome
+    ensures { λ r. ⌜ r ≡ asks request p ⌝ }
 {
-    let st = v.standing;
+    Outcome::quiet(0, p.with_request(request))
+}
+
+pub fn poll_register(value: u8, v: View) -> Outcome
+    ensures { λ r. ⌜ r ≡ pollRegister value v ⌝ }
+{
     let p = v.party;
-    Effect::quiet(0, st, p.with_request(request))
+    let request = p.request;
+    asks(request.with_saved(value), p)
+}
+
+pub fn second_request(on: bool, v: View) -> Outcome
+    ensures { λ r. ⌜ r ≡ secondRequest on v ⌝ }
+{
+    let p = v.party;
+    let request = p.request;
+    asks(request.with_rsv2(on), p)
 }
 
 // The acceptor of who is told to listen or not: who joins while a byte stands waits for its end.
-fn listener(on: bool, was: bool, l: Lines, a: Acceptor) -> Acceptor
+fn listen_acceptor(on: bool, was: bool, l: Lines, a: Acceptor) -> Acceptor
     ensures { λ r. ⌜ r ≡ listenAcceptor on was l a ⌝ }
 {
     if l.atn {
@@ -56,24 +79,38 @@ fn listener(on: bool, was: bool, l: Lines, a: Acceptor) -> Acceptor
     }
 }
 
-pub fn listening(on: bool, v: View) -> Effect
+pub fn listen_only(on: bool, v: View) -> Outcome
     ensures { λ r. ⌜ r ≡ listenOnly on v ⌝ }
 {
     let l = v.lines;
-    let st = v.standing;
     let p = v.party;
     let role = p.role;
     let acceptor = p.acceptor;
-    let q = p.with_acceptor(listener(on, role.listen, l, acceptor));
-    Effect::quiet(0, st, q.with_role(role.with_flags(role.talk, on)))
+    let q = p.with_acceptor(listen_acceptor(on, role.listen, l, acceptor));
+    Outcome::quiet(0, q.with_role(role.with_flags(role.talk, on)))
 }
 
-pub fn in_control(control: Control, v: View) -> Effect
+pub fn talk_only(on: bool, v: View) -> Outcome
+    ensures { λ r. ⌜ r ≡ talkOnly on v ⌝ }
+{
+    let p = v.party;
+    let role = p.role;
+    Outcome::quiet(0, p.with_role(role.with_flags(on, role.listen)))
+}
+
+// Take control, or go to standby.
+pub fn controlled(control: Control, v: View) -> Outcome
     ensures { λ r. ⌜ r ≡ controlled control v ⌝ }
 {
-    let st = v.standing;
     let p = v.party;
-    Effect::quiet(p.held_bytes(), st, p.change_control(control)).then(After::Attend)
+    Outcome::quiet(p.held_bytes(), p.change_control(control)).then(After::Attend)
+}
+
+pub fn drop_held(v: View) -> Outcome
+    ensures { λ r. ⌜ r ≡ dropHeld v ⌝ }
+{
+    let p = v.party;
+    Outcome::quiet(p.held_bytes(), p.with_held(Slot::Empty))
 }
 
 fn reset_acceptor(l: Lines) -> Acceptor
@@ -91,17 +128,37 @@ fn reset_acceptor(l: Lines) -> Acceptor
 }
 
 // Attention follows the reset of an active party.
-pub fn reset(v: View) -> Effect
+pub fn reset(v: View) -> Outcome
     ensures { λ r. ⌜ r ≡ reset v ⌝ }
 {
     let l = v.lines;
-    let st = v.standing;
     let p = v.party;
     let dropped = p.held_bytes();
     let wiped = p.wiped();
     if p.is_active() {
-        Effect::quiet(dropped, st, wiped).then(After::Attend)
+        Outcome::quiet(dropped, wiped).then(After::Attend)
     } else {
-        Effect::quiet(dropped, st, wiped.with_acceptor(reset_acceptor(l)))
+        Outcome::quiet(dropped, wiped.with_acceptor(reset_acceptor(l)))
+    }
+}
+
+// Interface clear. What it drops is counted when every party is cleared.
+pub fn clear(v: View) -> Outcome
+    ensures { λ r. ⌜ r ≡ clear v ⌝ }
+{
+    let p = v.party;
+    Outcome::quiet(0, p.cleared().change_control(Control::Active)).then(After::Clear)
+}
+
+// The lines are told.
+pub fn tell(v: View) -> Outcome
+    ensures { λ r. ⌜ r ≡ tell v ⌝ }
+{
+    let l = v.lines;
+    let party = v.party;
+    Outcome {
+        said: Said::say(Event::Lines, l.byte(), false, 0),
+        after: After::Settle,
+        party,
     }
 }

@@ -63,7 +63,7 @@ impl Kind {
     }
 
     // What the held register keeps once a byte of this kind has been put.
-    pub fn spends(self, held: Slot) -> Slot
+    pub fn spent(self, held: Slot) -> Slot
         ensures { λ r. ⌜ r ≡ spent self held ⌝ }
     {
         match self {

@@ -9,7 +9,7 @@ use offer::Slot;
 use service::Request;
 
 // The request once a byte of this kind is put: a status byte reports it.
-fn after_put(kind: Kind, request: Request) -> Request
+fn request_parted(kind: Kind, request: Request) -> Request
     ensures { λ r. ⌜ r ≡ requestParted kind request ⌝ }
 {
     match kind {
@@ -47,7 +47,7 @@ impl Party {
     }
 
     // The byte on offer.
-    pub fn offers(self, polled: bool) -> Slot
+    pub fn offer(self, polled: bool) -> Slot
         ensures { λ r. ⌜ r ≡ offer polled self ⌝ }
     {
         if polled {
@@ -59,13 +59,13 @@ impl Party {
     }
 
     // The sender once it has put its byte of this kind.
-    pub fn parts(self, kind: Kind) -> Party
+    pub fn parted(self, kind: Kind) -> Party
         ensures { λ r. ⌜ r ≡ parted kind self ⌝ }
     {
         let held = self.held;
         let request = self.request;
-        self.with_request(after_put(kind, request))
-            .with_held(kind.spends(held))
+        self.with_request(request_parted(kind, request))
+            .with_held(kind.spent(held))
             .with_source(Source::Strs)
     }
 }

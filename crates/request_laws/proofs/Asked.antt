@@ -13,11 +13,12 @@ use Rattle.party.specs.Driving.{isActive}
 use Rattle.party.specs.Sending.{isSource, isPolled, offer, parted}
 use Rattle.effect.specs.Calls.{isOn}
 use Rattle.effect.specs.Stands.{ofCommand}
-use Rattle.source_step.specs.SourceStep.{put, ready, ended, sourceStep}
-use Rattle.acceptor_step.specs.AcceptorStep.{take, acceptorStep}
-use Rattle.host_calls.specs.HostCalls.{read}
-use Rattle.accepted.specs.Accepted.{effect, effectOf}
-use Rattle.bus.specs.Types.{Place, Party, Source, Sids, Sgns, Sdys, Strs, Acceptor, Aids, Anrs, Acrs, Acds, Awns, Slot, Empty, Full, Kind, Command, Data, Status, Event, Found, Lines, Standing, Nothing, Byte, Call, After, Effect, View}
+use Rattle.effect.specs.Effects.{withStanding}
+use Rattle.source_step.specs.SourceStep.{put, ready, ended, sourceIn}
+use Rattle.acceptor_step.specs.AcceptorStep.{takes as takes-up, acceptorIn}
+use Rattle.host_calls.specs.HostCalls.{readOut}
+use Rattle.accepted.specs.Accepted.{step, effectOf}
+use Rattle.bus.specs.Types.{Place, Party, Source, Sids, Sgns, Sdys, Strs, Acceptor, Aids, Anrs, Acrs, Acds, Awns, Slot, Empty, Full, Kind, Command, Data, Status, Event, Lines, Standing, Nothing, Byte, Call, After, Outcome, Effect, View}
 use Rattle.bus.specs.Types.ev
 use Rattle.bus.specs.Types.after
 use Rattle.bus.specs.Types.call-of
@@ -70,48 +71,6 @@ module _ (l : Lines) (p : Party) where
     silent : isStat (e .said .event) ≡ false → e .party .request ≡ p .request → isActive (e .party) ≡ isActive p → Turn e
     reports : isStat (e .said .event) ≡ true → Reports e → Turn e
 
-  -- the kind is status only of a polled party, whose offer is its status byte
-  of-polled : (x y : Bool) → kindOf x y ≡ Status → y ≡ true
-  of-polled true y e = no (cc)
-  of-polled false true e = refl
-  of-polled false false e = no (cc)
-
-  of-status : (y : Bool) (v : ℕ) (e : Bool) → y ≡ true → offer y p ≡ Full v e → v ≡ status (p .request)
-  of-status true v e h o = cc
-  of-status false v e h o = no (cc)
-
-  put-turn : (k : Kind) (v : ℕ) (e : Bool) (i : Place) → kindOf (isActive p) (isPolled (l .atn) p) ≡ k → offer (isPolled (l .atn) p) p ≡ Full v e → Turn (put k v e i p)
-  put-turn Command v e i ek eo = silent refl refl refl
-  put-turn Data v e i ek eo = silent refl refl refl
-  put-turn Status v e i ek eo = let h = of-polled (isActive p) (isPolled (l .atn) p) ek in
-      reports refl (record { polled = h; byte = of-status (isPolled (l .atn) p) v e h eo; follows = refl; party = refl })
-
-  ready-turn : (o : Slot) (st : Standing) (i : Place) → offer (isPolled (l .atn) p) p ≡ o → Turn (ready o (kindOf (isActive p) (isPolled (l .atn) p)) l st i p)
-  ready-turn Empty st i eo = silent refl refl refl
-  ready-turn (Full v e) st i eo = cond-elim Turn (l .nrfd) (λ _. silent refl refl refl)
-      (λ _. cond-elim Turn (l .ndac) (λ _. put-turn (kindOf (isActive p) (isPolled (l .atn) p)) v e i refl eo) (λ _. silent refl refl refl))
-
-  ended-turn : (f : Found) (st : Standing) → Turn (ended f st p)
-  ended-turn f Nothing = silent refl refl refl
-  ended-turn f (Byte s k v e) = silent refl (cond-elim (λ (q : Party). q .request ≡ p .request) (ofCommand k) (λ _. refl) (λ _. refl)) (cond-elim (λ (q : Party). isActive q ≡ isActive p) (ofCommand k) (λ _. refl) (λ _. refl))
-
-  source-turn : (s : Source) (f : Found) (st : Standing) (i : Place) → Turn (sourceStep s (offer (isPolled (l .atn) p) p) (kindOf (isActive p) (isPolled (l .atn) p)) l f st i p)
-  source-turn Sids f st i = silent refl refl refl
-  source-turn Sgns f st i = cond-elim Turn (isFull (offer (isPolled (l .atn) p) p)) (λ _. silent refl refl refl) (λ _. silent refl refl refl)
-  source-turn Sdys f st i = ready-turn (offer (isPolled (l .atn) p) p) st i refl
-  source-turn Strs f st i = cond-elim Turn (l .ndac) (λ _. silent refl refl refl) (λ _. ended-turn f st)
-
-  take-turn : (t : Bool) (st : Standing) → Turn (take t st p)
-  take-turn t Nothing = silent refl refl refl
-  take-turn t (Byte s k v e) = cond-elim Turn t (λ _. silent (hear-events (λ (x : Event). isStat x ≡ false) refl refl refl (meaning v) (p .role .listen)) refl refl) (λ _. silent refl refl refl)
-
-  acceptor-turn : (a : Acceptor) (st : Standing) → Turn (acceptorStep a l st p)
-  acceptor-turn Aids st = silent refl refl refl
-  acceptor-turn Anrs st = cond-elim Turn (l .atn || not (isFull (p .input))) (λ _. silent refl refl refl) (λ _. silent refl refl refl)
-  acceptor-turn Acrs st = cond-elim Turn (l .dav) (λ _. take-turn (l .atn) st) (λ _. silent refl refl refl)
-  acceptor-turn Acds st = silent refl refl refl
-  acceptor-turn Awns st = cond-elim Turn (l .dav) (λ _. silent refl refl refl) (λ _. silent refl refl refl)
-
   -- what each call leaves
   pub record Leaves (c : Call) (e : Effect) : Type 0 where
     pub request : e .party .request ≡ asked c (e .said .event) (p .request)
@@ -121,17 +80,64 @@ module _ (l : Lines) (p : Party) where
   step-leaves i e (silent n r a) = record { request = rw n r; follows = fair (e .after) p (e .party) a r }
   step-leaves i e (reports y w) = record { request = rw (y, w .party) refl; follows = rw (w .follows, w .party) refl }
 
-module _ (v : View) where
-  pub step-turn : Turn (v .lines) (v .party) (effect v)
-  step-turn = let l = v .lines in let p = v .party in
-      cond-elim (Turn l p) (isSource (l .atn) p) (λ _. source-turn l p (p .source) (v .talker) (v .standing) (v .place)) (λ _. acceptor-turn l p (p .acceptor) (v .standing))
+-- the kind is status only of a polled party, whose offer is its status byte
+of-polled : (x y : Bool) → kindOf x y ≡ Status → y ≡ true
+of-polled true y e = no (cc)
+of-polled false true e = refl
+of-polled false false e = no (cc)
 
-  read-leaves : (i : Place) (s : Slot) → Leaves (v .lines) (v .party) (call-of.Of i act-of.Read) (read s v)
+of-status : (p : Party) (y : Bool) (v : ℕ) (e : Bool) → y ≡ true → offer y p ≡ Full v e → v ≡ status (p .request)
+of-status p true v e h o = cc
+of-status p false v e h o = no (cc)
+
+module _ (v : View) where
+  abbrev Turned : Effect → Type 0
+  Turned = Turn (v .lines) (v .party)
+
+  put-turn : (k : Kind) (x : ℕ) (e : Bool) → let p = v .party in let y = isPolled (v .lines .atn) p in kindOf (isActive p) y ≡ k → offer y p ≡ Full x e → Turned (put k x e v)
+  put-turn Command x e ek eo = silent refl refl refl
+  put-turn Data x e ek eo = silent refl refl refl
+  put-turn Status x e ek eo = let p = v .party in let y = isPolled (v .lines .atn) p in let h = of-polled (isActive p) y ek in
+      reports refl (record { polled = h; byte = of-status p y x e h eo; follows = refl; party = refl })
+
+  ready-turn : (o : Slot) → let p = v .party in let y = isPolled (v .lines .atn) p in offer y p ≡ o → Turned (ready o (kindOf (isActive p) y) v)
+  ready-turn Empty eo = silent refl refl refl
+  ready-turn (Full x e) eo = cond-elim Turned (v .lines .nrfd) (λ _. silent refl refl refl)
+      (λ _. cond-elim Turned (v .lines .ndac) (λ _. put-turn (kindOf (isActive (v .party)) (isPolled (v .lines .atn) (v .party))) x e refl eo) (λ _. silent refl refl refl))
+
+  ended-turn : (st : Standing) → Turned (ended st v)
+  ended-turn Nothing = silent refl refl refl
+  ended-turn (Byte s k x e) = let p = v .party in
+      silent refl (cond-elim (λ (q : Party). q .request ≡ p .request) (ofCommand k) (λ _. refl) (λ _. refl)) (cond-elim (λ (q : Party). isActive q ≡ isActive p) (ofCommand k) (λ _. refl) (λ _. refl))
+
+  source-turn : (s : Source) → let p = v .party in let y = isPolled (v .lines .atn) p in Turned (sourceIn s (offer y p) (kindOf (isActive p) y) v)
+  source-turn Sids = silent refl refl refl
+  source-turn Sgns = cond-elim Turned (isFull (offer (isPolled (v .lines .atn) (v .party)) (v .party))) (λ _. silent refl refl refl) (λ _. silent refl refl refl)
+  source-turn Sdys = ready-turn (offer (isPolled (v .lines .atn) (v .party)) (v .party)) refl
+  source-turn Strs = cond-elim Turned (v .lines .ndac) (λ _. silent refl refl refl) (λ _. ended-turn (v .standing))
+
+  takes-turn : (st : Standing) → Turned (takes-up st v)
+  takes-turn Nothing = silent refl refl refl
+  takes-turn (Byte s k x e) = cond-elim Turned (v .lines .atn)
+      (λ _. silent (hear-events (λ (y : Event). isStat y ≡ false) refl refl refl (meaning x) (v .party .role .listen)) refl refl)
+      (λ _. silent refl refl refl)
+
+  acceptor-turn : (a : Acceptor) → Turned (acceptorIn a v)
+  acceptor-turn Aids = silent refl refl refl
+  acceptor-turn Anrs = cond-elim Turned (v .lines .atn || not (isFull (v .party .input))) (λ _. silent refl refl refl) (λ _. silent refl refl refl)
+  acceptor-turn Acrs = cond-elim Turned (v .lines .dav) (λ _. takes-turn (v .standing)) (λ _. silent refl refl refl)
+  acceptor-turn Acds = silent refl refl refl
+  acceptor-turn Awns = cond-elim Turned (v .lines .dav) (λ _. silent refl refl refl) (λ _. silent refl refl refl)
+
+  pub step-turn : Turned (step v)
+  step-turn = let p = v .party in cond-elim Turned (isSource (v .lines .atn) p) (λ _. source-turn (p .source)) (λ _. acceptor-turn (p .acceptor))
+
+  read-leaves : (i : Place) (s : Slot) → Leaves (v .lines) (v .party) (call-of.Of i act-of.Read) (withStanding (v .standing) (readOut s (v .party)))
   read-leaves i Empty = record { request = refl; follows = refl }
   read-leaves i (Full x e) = record { request = refl; follows = refl }
 
   pub leaves : (c : Call) → Leaves (v .lines) (v .party) c (effectOf v c)
-  leaves (call-of.Of i act-of.Step) = step-leaves (v .lines) (v .party) i (effect v) step-turn
+  leaves (call-of.Of i act-of.Step) = step-leaves (v .lines) (v .party) i (step v) step-turn
   leaves (call-of.Of i (act-of.Write x e)) = record { request = refl; follows = refl }
   leaves (call-of.Of i act-of.Read) = read-leaves i (v .party .input)
   leaves (call-of.Of i (act-of.PollRegister x)) = record { request = refl; follows = refl }
@@ -140,7 +146,7 @@ module _ (v : View) where
   leaves (call-of.Of i act-of.TakeControl) = record { request = refl; follows = refl }
   leaves (call-of.Of i act-of.GoToStandby) = record { request = refl; follows = refl }
   leaves (call-of.Of i act-of.InterfaceClear) = record { request = refl; follows = refl }
-  leaves (call-of.Of i act-of.Reset) = cond-elim (Leaves (v .lines) (v .party) (call-of.Of i act-of.Reset)) (isActive (v .party)) (λ _. record { request = refl; follows = refl }) (λ h. record { request = refl; follows = sym h })
+  leaves (call-of.Of i act-of.Reset) = cond-elim (λ (o : Outcome). Leaves (v .lines) (v .party) (call-of.Of i act-of.Reset) (withStanding (v .standing) o)) (isActive (v .party)) (λ _. record { request = refl; follows = refl }) (λ h. record { request = refl; follows = sym h })
   leaves (call-of.Of i act-of.Drop) = record { request = refl; follows = refl }
   leaves (call-of.Of i (act-of.SecondRequest on)) = record { request = refl; follows = refl }
   leaves call-of.Lines = record { request = refl; follows = refl }

@@ -25,6 +25,7 @@ use Rattle.effect.specs.Words.{isAccepted}
 use Rattle.effect.specs.Calls.{placeOf}
 use Rattle.refusals.specs.Refusals.{ofSwitch}
 use Rattle.host_calls.specs.HostCalls.{secondRequest}
+use Rattle.effect.specs.Effects.{withStanding}
 use Rattle.accepted.specs.Accepted.{effectOf}
 use Rattle.bus.specs.Record.{here, lines, refuse}
 use Rattle.effect.specs.Stands.{stands}
@@ -304,7 +305,7 @@ module _ (b : Bus) (I : Inv b) (j : ℕ) (ok : isAccepted (m.refusal (lines b) b
 switched-on : (b : Bus) → Inv b → (j : ℕ) → isAccepted (m.refusal (lines b) b (call-of.Of (place j) (act-of.SecondRequest 1))) ≡ true → let a = m.accepted (lines b) b (call-of.Of (place j) (act-of.SecondRequest 1)) in
     (j < b .count) × (here (a .bus) j .request .rsv2 ≡ true) × (polledOn (a .bus) j ≡ polledOn b j)
 switched-on b I j ok = let l = known b (place j) (ofSwitch 1 ruling.Accepted) ok .0 in
-    (l, own-bit b I (call-of.Of (place j) (act-of.SecondRequest 1)) ok l, follow-polled b I j (room b I (call-of.Of (place j) (act-of.SecondRequest 1)) ok) (secondRequest true (m.viewAt (place j) (lines b) b)) l after.Settle refl refl refl)
+    (l, own-bit b I (call-of.Of (place j) (act-of.SecondRequest 1)) ok l, follow-polled b I j (room b I (call-of.Of (place j) (act-of.SecondRequest 1)) ok) (withStanding (b .standing) (secondRequest true (m.viewAt (place j) (lines b) b))) l after.Settle refl refl refl)
 
 accepted-served : (b : Bus) → Inv b → (c : Call) → isAccepted (m.refusal (lines b) b c) ≡ true → Served b c (m.accepted (lines b) b c)
 accepted-served b I c ok = record {

@@ -6,15 +6,16 @@ use Prim.Native.Nat.{ℕ, _+_, _-_, _≤_}
 use native.Mathlib.Omega.{arith}
 use native.Mathlib.Nat.{not-suc-le-zero}
 use Rattle.party.specs.Driving.{davAt, drivesDav, nrfdAt, ndacAt}
-use Rattle.role.proofs.Logic.{no, test}
-use Rattle.parties.specs.declared.Lines.{Lines}
+use Rattle.role.proofs.Logic.{no, test, cond-elim}
+use Rattle.effect.specs.declared.View.{View}
+use Rattle.effect.specs.declared.Effect.{Effect}
 use Rattle.parties.proofs.Places.{some-true}
 use Rattle.effect.specs.Stands.{stands}
-use Rattle.acceptor_step.specs.AcceptorStep.{acceptorStep}
+use Rattle.acceptor_step.specs.AcceptorStep.{takes, acceptorIn}
 use Rattle.bus.specs.Record.{here, lines}
 use Rattle.bus.specs.Delivery.{isEnd}
 use Rattle.bus.proofs.Invariant.{Inv}
-use Rattle.runner.specs.Types.{Place, Party, Source, Sids, Sgns, Sdys, Strs, Acceptor, Aids, Anrs, Acrs, Acds, Awns, Empty, Kind, Standing, Nothing, Byte, Bus}
+use Rattle.runner.specs.Types.{Party, Source, Sids, Sgns, Sdys, Strs, Acceptor, Aids, Anrs, Acrs, Acds, Awns, Empty, Standing, Nothing, Byte, Bus}
 
 -- turns wanted before a byte can be put
 abbrev acceptorRank : Acceptor → ℕ
@@ -81,45 +82,45 @@ tick-part Acrs h e = no (cc)
 tick-part Acds h e = no (cc)
 tick-part Awns h e = no (cc)
 
-module _ (l : Lines) (p : Party) (t : l .atn ≡ false) (st : Standing) where
-  pub tick-acceptor : l .dav ≡ false → p .input ≡ Empty → (a : Acceptor) → p .acceptor ≡ a → acceptorStep a l st p .party .acceptor ≡ tick a
+module _ (v : View) (t : v .lines .atn ≡ false) where
+  -- while nothing stands
+  pub tick-acceptor : v .lines .dav ≡ false → v .party .input ≡ Empty → (a : Acceptor) → v .party .acceptor ≡ a → acceptorIn a v .party .acceptor ≡ tick a
   tick-acceptor d h Aids e = e
   tick-acceptor d h Anrs e = rw (t, h) refl
   tick-acceptor d h Acrs e = rw d e
   tick-acceptor d h Acds e = refl
   tick-acceptor d h Awns e = rw d refl
 
-  pub tick-input : l .dav ≡ false → p .input ≡ Empty → (a : Acceptor) → acceptorStep a l st p .party .input ≡ Empty
+  pub tick-input : v .lines .dav ≡ false → v .party .input ≡ Empty → (a : Acceptor) → acceptorIn a v .party .input ≡ Empty
   tick-input d h Aids = h
   tick-input d h Anrs = rw (t, h) refl
   tick-input d h Acrs = rw d h
   tick-input d h Acds = h
   tick-input d h Awns = rw d h
 
--- The acceptor step while a byte stands: nobody is in ANRS then.
-module _ (l : Lines) (p : Party) (t : l .atn ≡ false) (s : Place) (k : Kind) (v : ℕ) (e : Bool) (d : l .dav ≡ true) where
-  tock-left-of : (a : Acceptor) → p .acceptor ≡ a → (a ≡ Anrs → ⊥) → acceptorLeft (acceptorStep a l (Byte s k v e) p .party .acceptor) ≤ acceptorLeft a - 1
-  tock-left-of Aids h n = rw h (omega arith)
-  tock-left-of Anrs h n = absurd (n refl)
-  tock-left-of Acrs h n = rw (d, t) (omega arith)
-  tock-left-of Acds h n = omega arith
-  tock-left-of Awns h n = rw (d, h) (omega arith)
+  -- while a byte stands: nobody is in ANRS then
+  tock-taken : (st : Standing) → stands st ≡ true → acceptorLeft (takes st v .party .acceptor) ≤ 1
+  tock-taken Nothing h = no (cc)
+  tock-taken (Byte s k x e) h = rw t (omega arith)
 
-  tock-event-of : (a : Acceptor) → (a ≡ Anrs → ⊥) → isEnd (acceptorStep a l (Byte s k v e) p .said .event) ≡ false
-  tock-event-of Aids n = refl
-  tock-event-of Anrs n = absurd (n refl)
-  tock-event-of Acrs n = rw (d, t) refl
-  tock-event-of Acds n = refl
-  tock-event-of Awns n = rw d refl
+  tock-took : (st : Standing) → stands st ≡ true → isEnd (takes st v .said .event) ≡ false
+  tock-took Nothing h = no (cc)
+  tock-took (Byte s k x e) h = rw t refl
 
-module _ (l : Lines) (p : Party) (t : l .atn ≡ false) (d : l .dav ≡ true) where
-  pub tock-left : (st : Standing) → stands st ≡ true → (a : Acceptor) → p .acceptor ≡ a → (a ≡ Anrs → ⊥) → acceptorLeft (acceptorStep a l st p .party .acceptor) ≤ acceptorLeft a - 1
-  tock-left Nothing h = no (cc)
-  tock-left (Byte s k v e) h = tock-left-of l p t s k v e d
+  module _ (d : v .lines .dav ≡ true) (up : stands (v .standing) ≡ true) where
+    pub tock-left : (a : Acceptor) → v .party .acceptor ≡ a → (a ≡ Anrs → ⊥) → acceptorLeft (acceptorIn a v .party .acceptor) ≤ acceptorLeft a - 1
+    tock-left Aids h n = rw h (omega arith)
+    tock-left Anrs h n = absurd (n refl)
+    tock-left Acrs h n = cond-elim (λ (x : Effect). acceptorLeft (x .party .acceptor) ≤ 1) (v .lines .dav) (λ _. tock-taken (v .standing) up) (λ f. no (cc))
+    tock-left Acds h n = omega arith
+    tock-left Awns h n = rw (d, h) (omega arith)
 
-  pub tock-event : (st : Standing) → stands st ≡ true → (a : Acceptor) → (a ≡ Anrs → ⊥) → isEnd (acceptorStep a l st p .said .event) ≡ false
-  tock-event Nothing h = no (cc)
-  tock-event (Byte s k v e) h = tock-event-of l p t s k v e d
+    pub tock-event : (a : Acceptor) → (a ≡ Anrs → ⊥) → isEnd (acceptorIn a v .said .event) ≡ false
+    tock-event Aids n = refl
+    tock-event Anrs n = absurd (n refl)
+    tock-event Acrs n = cond-elim (λ (x : Effect). isEnd (x .said .event) ≡ false) (v .lines .dav) (λ _. tock-took (v .standing) up) (λ f. no (cc))
+    tock-event Acds n = refl
+    tock-event Awns n = rw d refl
 
 -- Ranks and lines: who wants no turn holds no line, and who takes part and holds no NRFD holds NDAC.
 pub no-rank-no-nrfd : (a : Acceptor) → acceptorRank a ≤ 0 → nrfdAt a ≡ false

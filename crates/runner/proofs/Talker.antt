@@ -96,7 +96,7 @@ module _ (n p w v : ℕ) (e : Bool) where
     inn = rw (B .count) (B .there)
 
     as-sends : m.call b (stepOf p)
-        ≡ follow (atnOf b) b p (sourceStep (here b p .source) (offer (isPolled (atnOf b) (here b p)) (here b p)) (kindOf (isActive (here b p)) (isPolled (atnOf b) (here b p))) (lines b) (otherTalker (b .count) p (b .parties)) (b .standing) (place p) (here b p))
+        ≡ follow (atnOf b) b p (sourceStep (m.viewAt (place p) (lines b) b))
     as-sends = source-step b (B .inv) p inn own-source
 
     -- a step of another party keeps the base
@@ -165,7 +165,7 @@ module _ (n p w v : ℕ) (e : Bool) where
         held = ap (λ (x : Party). x .held) talker ∙ O .held;
         source = rw talker (O .source);
         empty = λ j. test (eqb j i)
-            (λ h. rw (eqb-true j i h) (ap (λ (x : Party). x .input) own ∙ tick-input (lines b) (here b i) (B .quiet) (b .standing) (dav-off b (B .inv) (O .none)) (O .empty i) (here b i .acceptor)))
+            (λ h. rw (eqb-true j i h) (ap (λ (x : Party). x .input) own ∙ tick-input (m.viewAt (place i) (lines b) b) (B .quiet) (dav-off b (B .inv) (O .none)) (O .empty i) (here b i .acceptor)))
             (λ h. ap (λ (x : Party). x .input) (other-kept b (B .inv) i A j (eqb-false j i h)) ∙ O .empty j);
         part = test (eqb w i)
             (λ h f. tick-part (here b i .acceptor) (λ g. O .part (ap (λ (j : ℕ). here b j .acceptor) (eqb-true w i h) ∙ g)) (sym acc ∙ ap (λ (j : ℕ). here c j .acceptor) (sym (eqb-true w i h)) ∙ f))
@@ -198,7 +198,7 @@ module _ (n p w v : ℕ) (e : Bool) where
         own = own-next b (B .inv) i A
 
         acc : here c i .acceptor ≡ tick (here b i .acceptor)
-        acc = ap (λ (x : Party). x .acceptor) own ∙ tick-acceptor (lines b) (here b i) (B .quiet) (b .standing) (dav-off b (B .inv) (O .none)) (O .empty i) (here b i .acceptor) refl
+        acc = ap (λ (x : Party). x .acceptor) own ∙ tick-acceptor (m.viewAt (place i) (lines b) b) (B .quiet) (dav-off b (B .inv) (O .none)) (O .empty i) (here b i .acceptor) refl
 
     -- the talker's step, where it puts nothing up
     waits-own : (s : Said) (x : Source) → m.call b (stepOf p) ≡ local b p s (withSource x P) (b .standing) → settled (atnOf b) (withSource x P) .source ≡ Sdys
@@ -259,7 +259,7 @@ module _ (n p w v : ℕ) (e : Bool) where
     as-moved : P .source ≡ Sgns → m.call b (stepOf p) ≡ local b p (say ev.Moved 0 false 0) (withSource Sdys P) (b .standing)
     as-moved h = as-sends b B ∙ rw (h, offered) (touched (say ev.Moved 0 false 0) (withSource Sdys P))
 
-    as-ready : P .source ≡ Sdys → m.call b (stepOf p) ≡ follow (atnOf b) b p (cond (lines b .nrfd) (stay (b .standing) P) (cond (lines b .ndac) (put Data v e (place p) P) (noacc Data v e (b .standing) P)))
+    as-ready : P .source ≡ Sdys → m.call b (stepOf p) ≡ follow (atnOf b) b p (let w = m.viewAt (place p) (lines b) b in cond (lines b .nrfd) (stay w) (cond (lines b .ndac) (put Data v e w) (noacc Data v e w)))
     as-ready h = as-sends b B ∙ rw (h, offered, its-kind) refl
 
     as-held-up : P .source ≡ Sdys → lines b .nrfd ≡ true → m.call b (stepOf p) ≡ local b p (say ev.None 0 false 0) P (b .standing)
@@ -328,7 +328,7 @@ module _ (n p w v : ℕ) (e : Bool) where
 
     stands-other : (i : ℕ) → i < n → (i ≡ p → ⊥) → Stood b i
     stands-other i l ne = record {
-      keeps = (ap isEnd (event-of b (BS .inv) i A) ∙ tock-event (lines b) (here b i) (BS .quiet) dav (b .standing) up-here (here b i .acceptor) calm, broken-of b (BS .inv) i A);
+      keeps = (ap isEnd (event-of b (BS .inv) i A) ∙ tock-event (m.viewAt (place i) (lines b) b) (BS .quiet) dav up-here (here b i .acceptor) calm, broken-of b (BS .inv) i A);
       sent = record {
         base = base-other b BS i l ne;
         byte = standing-kept b (BS .inv) i A ∙ S .byte;
@@ -336,7 +336,7 @@ module _ (n p w v : ℕ) (e : Bool) where
       };
       lowers = record {
         other = λ j nj. ap left (other-kept b (BS .inv) i A j nj);
-        own = rw (own-next b (BS .inv) i A) (tock-left (lines b) (here b i) (BS .quiet) dav (b .standing) up-here (here b i .acceptor) refl calm);
+        own = rw (own-next b (BS .inv) i A) (tock-left (m.viewAt (place i) (lines b) b) (BS .quiet) dav up-here (here b i .acceptor) refl calm);
       };
       held-up = λ h. absurd (ne h);
     }
@@ -350,14 +350,14 @@ module _ (n p w v : ℕ) (e : Bool) where
         calm : here b i .acceptor ≡ Anrs → ⊥
         calm = BS .inv .pre .noAnrs up-here i
 
-    as-sent : m.call b (stepOf p) ≡ follow (atnOf b) b p (cond (lines b .ndac) (stay (b .standing) (here b p)) (ended (otherTalker (b .count) p (b .parties)) (b .standing) (here b p)))
+    as-sent : m.call b (stepOf p) ≡ follow (atnOf b) b p (cond (lines b .ndac) (stay (m.viewAt (place p) (lines b) b)) (ended (b .standing) (m.viewAt (place p) (lines b) b)))
     as-sent = as-sends b BS ∙ rw (S .source) refl
 
     as-standing : lines b .ndac ≡ true → m.call b (stepOf p) ≡ local b p (say ev.None 0 false 0) (here b p) (b .standing)
     as-standing nd = as-sent ∙ rw nd (touch-local b (BS .inv) p (inn b BS) (say ev.None 0 false 0) (here b p) (b .standing)
         (rw (S .byte) (rw (set-here b (BS .inv) p (inn b BS) (here b p), own-source b BS) refl)))
 
-    as-ended : lines b .ndac ≡ false → m.call b (stepOf p) ≡ follow (atnOf b) b p (ended (otherTalker (b .count) p (b .parties)) (Byte (place p) Data v e) (here b p))
+    as-ended : lines b .ndac ≡ false → m.call b (stepOf p) ≡ follow (atnOf b) b p (ended (Byte (place p) Data v e) (m.viewAt (place p) (lines b) b))
     as-ended nd = as-sent ∙ rw (nd, S .byte) refl
 
     stands-talker : (x : Bool) → lines b .ndac ≡ x → End b p ⊎ Stood b p

@@ -1,4 +1,4 @@
--- The source step (document 01, "Source step"): its effect, from the lines, what stands and the party.
+-- The source step (document 01, "Source step"): its effect, from what the party sees.
 -- Assumes nothing.
 use Prim.Native.Nat.{ℕ}
 use mathlib.Core.Bool.{Bool, cond}
@@ -9,24 +9,26 @@ use Rattle.party.specs.Parts.{withSource}
 use Rattle.party.specs.Driving.{isActive}
 use Rattle.party.specs.Hearing.{heardBy}
 use Rattle.party.specs.Sending.{isPolled, offer, parted}
-use Rattle.source_step.specs.Types.{Place, Party, Source, Sids, Sgns, Sdys, Strs, Slot, Empty, Full, Kind, Lines, Found, Nowhere, At, Standing, Nothing, Byte, After, Effect, View}
+use Rattle.source_step.specs.Types.{Source, Sids, Sgns, Sdys, Strs, Slot, Empty, Full, Kind}
+use Rattle.source_step.specs.Types.{Found, Nowhere, At, Standing, Nothing, Byte, After, Effect, View}
 use Rattle.source_step.specs.Types.ev
 use Rattle.source_step.specs.Types.after
 use Rattle.effect.specs.Stands.{ofCommand}
-use Rattle.effect.specs.Effects.{say, does, stay, move}
+use Rattle.effect.specs.Effects.{say, does, stay, moved}
 
--- "put: to STRS, the byte stands". Document 02, Q-5: "Putting a status byte in APRS clears rsv2 in that same step", which `parted` has.
-abbrev pub put : Kind → ℕ → Bool → Place → Party → Effect
-put k v e i p = does (say (putEvent k) v (endOf k e) 0) (parted k p) (Byte i k v (endOf k e))
+-- "put: to STRS, the byte stands". Document 02, Q-5: "Putting a status byte in APRS clears rsv2 in that same step",
+-- which `parted` has.
+abbrev pub put : Kind → ℕ → Bool → View → Effect
+put k x e v = does (say (putEvent k) x (endOf k e) 0) (parted k (v .party)) (Byte (v .place) k x (endOf k e))
 
 -- "noacc leaves the held byte in its register and the source in SDYS" (document 02, Q-2)
-abbrev pub noacc : Kind → ℕ → Bool → Standing → Party → Effect
-noacc k v e st p = does (say ev.Noacc v (endOf k e) 0) p st
+abbrev pub noacc : Kind → ℕ → Bool → View → Effect
+noacc k x e v = does (say ev.Noacc x (endOf k e) 0) (v .party) (v .standing)
 
 -- "SDYS: no byte on offer, to SGNS; else NRFD true, stay; else NDAC false, event noacc ..; else put"
-abbrev pub ready : Slot → Kind → Lines → Standing → Place → Party → Effect
-ready Empty k l st i p = move st (withSource Sgns p)
-ready (Full v e) k l st i p = cond (l .nrfd) (stay st p) (cond (l .ndac) (put k v e i p) (noacc k v e st p))
+abbrev pub ready : Slot → Kind → View → Effect
+ready Empty k v = moved v (withSource Sgns (v .party))
+ready (Full x e) k v = cond (v .lines .nrfd) (stay v) (cond (v .lines .ndac) (put k x e v) (noacc k x e v))
 
 -- "TCT does nothing when heard; when it ends, control goes to the talk-on party other than the sender, if there is one"
 abbrev pub passTo : Bool → Found → After
@@ -34,28 +36,29 @@ passTo passes Nowhere = after.Settle
 passTo passes (At j) = cond passes (after.Pass j) after.Settle
 
 -- "event ended, to SGNS, and a command is then heard by its own sender too"
-abbrev pub endedByte : Found → Kind → ℕ → Bool → Party → Effect
-endedByte f k v e p = record {
-  said = say ev.Ended v e 0;
-  after = cond (ofCommand k) (passTo (passesControl (meaning v)) f) after.Settle;
-  party = withSource Sgns (cond (ofCommand k) (heardBy v p) p);
+abbrev pub endedByte : Kind → ℕ → Bool → View → Effect
+endedByte k x e v = record {
+  said = say ev.Ended x e 0;
+  after = cond (ofCommand k) (passTo (passesControl (meaning x)) (v .talker)) after.Settle;
+  party = withSource Sgns (cond (ofCommand k) (heardBy x (v .party)) (v .party));
   standing = Nothing;
 }
 
-abbrev pub ended : Found → Standing → Party → Effect
-ended f Nothing p = stay Nothing p
-ended f (Byte s k v e) p = endedByte f k v e p
+abbrev pub ended : Standing → View → Effect
+ended Nothing v = stay v
+ended (Byte s k x e) v = endedByte k x e v
 
 -- "SGNS: with a byte on offer .. to SDYS."
-abbrev pub offering : Bool → Standing → Party → Effect
-offering full st p = cond full (move st (withSource Sdys p)) (stay st p)
+abbrev pub offering : Bool → View → Effect
+offering full v = cond full (moved v (withSource Sdys (v .party))) (stay v)
 
--- "STRS: NDAC false, event ended ..; else stay." Settling leaves no source in SIDS. f is the talk-on party other than this one.
-abbrev pub sourceStep : Source → Slot → Kind → Lines → Found → Standing → Place → Party → Effect
-sourceStep Sids o k l f st i p = stay st p
-sourceStep Sgns o k l f st i p = offering (isFull o) st p
-sourceStep Sdys o k l f st i p = ready o k l st i p
-sourceStep Strs o k l f st i p = cond (l .ndac) (stay st p) (ended f st p)
+-- "STRS: NDAC false, event ended ..; else stay." Settling leaves no source in SIDS.
+abbrev pub sourceIn : Source → Slot → Kind → View → Effect
+sourceIn Sids o k v = stay v
+sourceIn Sgns o k v = offering (isFull o) v
+sourceIn Sdys o k v = ready o k v
+sourceIn Strs o k v = cond (v .lines .ndac) (stay v) (ended (v .standing) v)
 
-abbrev pub sourceEffect : View → Effect
-sourceEffect v = let p = v .party in let polled = isPolled (v .lines .atn) p in sourceStep (p .source) (offer polled p) (kindOf (isActive p) polled) (v .lines) (v .talker) (v .standing) (v .place) p
+abbrev pub sourceStep : View → Effect
+sourceStep v = let p = v .party in let polled = isPolled (v .lines .atn) p in
+    sourceIn (p .source) (offer polled p) (kindOf (isActive p) polled) v

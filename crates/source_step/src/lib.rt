@@ -1,7 +1,7 @@
 // The source step.
 ghost use mathlib.Core.Path.{_≡_};
 ghost use Rattle.source_step.specs.Types.{Command};
-ghost use Rattle.source_step.specs.SourceStep.{put, noacc, ready, passTo, endedByte, ended, sourceEffect};
+ghost use Rattle.source_step.specs.SourceStep.{put, noacc, offering, ready, passTo, endedByte, ended, sourceStep};
 use effect::After;
 use effect::Effect;
 use effect::Said;
@@ -12,50 +12,62 @@ use message::meaning_of;
 use offer::Kind;
 use offer::Slot;
 use parties::Found;
-use party::Party;
-use party::Place;
 use party::Source;
 use role::hearing;
 
 // The byte is put up.
-fn put_up(kind: Kind, v: u8, e: bool, i: Place, p: Party) -> Effect
-    ensures { λ r. ⌜ r ≡ put kind v e i p ⌝ }
+fn put(kind: Kind, byte: u8, end: bool, v: View) -> Effect
+    ensures { λ r. ⌜ r ≡ put kind byte end v ⌝ }
 {
-    let end = kind.end(e);
+    let p = v.party;
+    let sender = v.place;
+    let carried = kind.end(end);
     let standing = Standing::Byte {
-        sender: i,
+        sender,
         kind,
-        value: v,
-        end,
+        value: byte,
+        end: carried,
     };
-    let said = Said::say(kind.put_event(), v, end, 0);
-    Effect::does(said, p.parts(kind), standing)
+    let said = Said::say(kind.put_event(), byte, carried, 0);
+    Effect::does(said, p.parted(kind), standing)
 }
 
 // Nobody is there to accept the byte, which is kept.
-fn not_accepted(kind: Kind, v: u8, e: bool, st: Standing, p: Party) -> Effect
-    ensures { λ r. ⌜ r ≡ noacc kind v e st p ⌝ }
+fn noacc(kind: Kind, byte: u8, end: bool, v: View) -> Effect
+    ensures { λ r. ⌜ r ≡ noacc kind byte end v ⌝ }
 {
-    Effect::does(Said::say(Event::Noacc, v, kind.end(e), 0), p, st)
+    let p = v.party;
+    let st = v.standing;
+    Effect::does(Said::say(Event::Noacc, byte, kind.end(end), 0), p, st)
+}
+
+// A source in SGNS.
+fn offering(full: bool, v: View) -> Effect
+    ensures { λ r. ⌜ r ≡ offering full v ⌝ }
+{
+    let p = v.party;
+    if full {
+        v.moved(p.with_source(Source::Sdys))
+    } else {
+        v.stay()
+    }
 }
 
 // A source in SDYS.
-fn from_sdys(offer: Slot, kind: Kind, seen: View) -> Effect
-    ensures { λ r. ⌜ r ≡ ready offer kind (seen .lines) (seen .standing) (seen .place) (seen .party) ⌝ }
+fn ready(offer: Slot, kind: Kind, v: View) -> Effect
+    ensures { λ r. ⌜ r ≡ ready offer kind v ⌝ }
 {
-    let l = seen.lines;
-    let st = seen.standing;
-    let i = seen.place;
-    let p = seen.party;
+    let l = v.lines;
+    let p = v.party;
     match offer {
-        Slot::Empty => Effect::moved(st, p.with_source(Source::Sgns)),
-        Slot::Full(v, e) => {
+        Slot::Empty => v.moved(p.with_source(Source::Sgns)),
+        Slot::Full(byte, end) => {
             if l.nrfd {
-                Effect::stay(st, p)
+                v.stay()
             } else if l.ndac {
-                put_up(kind, v, e, i, p)
+                put(kind, byte, end, v)
             } else {
-                not_accepted(kind, v, e, st, p)
+                noacc(kind, byte, end, v)
             }
         }
     }
@@ -76,30 +88,36 @@ fn pass_to(passes: bool, talker: Found) -> After
 }
 
 // A command has ended, and is heard by its own sender too.
-fn command_ended(talker: Found, v: u8, e: bool, p: Party) -> Effect
-    ensures { λ r. ⌜ r ≡ endedByte talker Command v e p ⌝ }
+fn command_ended(byte: u8, end: bool, v: View) -> Effect
+    ensures { λ r. ⌜ r ≡ endedByte Command byte end v ⌝ }
 {
-    let party = p.heard(v).with_source(Source::Sgns);
-    let after = pass_to(hearing::passes_control(meaning_of(v)), talker);
-    Effect::does(Said::say(Event::Ended, v, e, 0), party, Standing::Nothing).then(after)
+    let p = v.party;
+    let talker = v.talker;
+    Effect {
+        said: Said::say(Event::Ended, byte, end, 0),
+        after: pass_to(hearing::passes_control(meaning_of(byte)), talker),
+        party: p.heard(byte).with_source(Source::Sgns),
+        standing: Standing::Nothing,
+    }
 }
 
 // NDAC is false: what stands has ended.
-fn over(talker: Found, st: Standing, p: Party) -> Effect
-    ensures { λ r. ⌜ r ≡ ended talker st p ⌝ }
+fn ended(st: Standing, v: View) -> Effect
+    ensures { λ r. ⌜ r ≡ ended st v ⌝ }
 {
     match st {
-        Standing::Nothing => Effect::stay(Standing::Nothing, p),
+        Standing::Nothing => v.stay(),
         Standing::Byte {
             sender: _,
             kind,
             value,
             end,
         } => {
+            let p = v.party;
             let said = Said::say(Event::Ended, value, end, 0);
             let party = p.with_source(Source::Sgns);
             match kind {
-                Kind::Command => command_ended(talker, value, end, p),
+                Kind::Command => command_ended(value, end, v),
                 Kind::Data => Effect::does(said, party, Standing::Nothing),
                 Kind::Status => Effect::does(said, party, Standing::Nothing),
             }
@@ -108,28 +126,19 @@ fn over(talker: Found, st: Standing, p: Party) -> Effect
 }
 
 pub fn source_step(v: View) -> Effect
-    ensures { λ r. ⌜ r ≡ sourceEffect v ⌝ }
+    ensures { λ r. ⌜ r ≡ sourceStep v ⌝ }
 {
     let l = v.lines;
-    let talker = v.talker;
     let st = v.standing;
     let p = v.party;
     let source = p.source;
     let polled = p.is_polled(l.atn);
-    let offer = p.offers(polled);
+    let offer = p.offer(polled);
     let kind = Kind::of(p.is_active(), polled);
     match source {
-        Source::Sids => Effect::stay(st, p),
-        Source::Sgns => if offer.is_full() {
-            Effect::moved(st, p.with_source(Source::Sdys))
-        } else {
-            Effect::stay(st, p)
-        },
-        Source::Sdys => from_sdys(offer, kind, v),
-        Source::Strs => if l.ndac {
-            Effect::stay(st, p)
-        } else {
-            over(talker, st, p)
-        },
+        Source::Sids => v.stay(),
+        Source::Sgns => offering(offer.is_full(), v),
+        Source::Sdys => ready(offer, kind, v),
+        Source::Strs => if l.ndac { v.stay() } else { ended(st, v) },
     }
 }

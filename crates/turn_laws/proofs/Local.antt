@@ -19,9 +19,9 @@ use Rattle.role.proofs.Logic.{no, test, cond-elim}
 use Rattle.parties.specs.Places.{place, at, each, otherTalker}
 use Rattle.parties.proofs.Places.{each-still, some-set}
 use Rattle.effect.specs.Effects.{does}
-use Rattle.source_step.specs.SourceStep.{sourceEffect}
-use Rattle.acceptor_step.specs.AcceptorStep.{take, acceptorStep, acceptorEffect}
-use Rattle.accepted.specs.Accepted.{effect}
+use Rattle.source_step.specs.SourceStep.{sourceStep}
+use Rattle.acceptor_step.specs.AcceptorStep.{takes, acceptorIn, acceptorStep}
+use Rattle.accepted.specs.Accepted.{step}
 use Rattle.bus.specs.Record.{here, lines, refuse}
 use Rattle.bus.specs.Settling.{answered, deserted}
 use Rattle.bus.specs.Following.{touch, follow}
@@ -31,7 +31,7 @@ use Rattle.bus.proofs.EachCall.{call-good}
 use Rattle.bus.proofs.Reached.{sender-is-source}
 use Rattle.bus.specs.declared.Bus.{Bus}
 use Rattle.bus.specs.declared.Answer.{Answer}
-use Rattle.bus.specs.Types.{Party, Acceptor, Aids, Anrs, Acrs, Acds, Awns, Lines, Standing, Nothing, Byte, Effect, Said}
+use Rattle.bus.specs.Types.{Party, Acceptor, Aids, Anrs, Acrs, Acds, Awns, Standing, Nothing, Byte, Effect, Said, View}
 use Rattle.bus.specs.Types.after
 use Rattle.bus.specs.Types.ruling
 use Rattle.turn_laws.specs.Steps.{stepOf}
@@ -77,7 +77,7 @@ module _ (b : Bus) (I : Inv b) (i : ℕ) (l : i < b .count) where
 
 -- a step of a party that is there is accepted
 call-step : (b : Bus) → Inv b → (i : ℕ) → i < b .count
-    → m.call b (stepOf i) ≡ follow (atnOf b) b i (effect (m.viewAt (place i) (lines b) b))
+    → m.call b (stepOf i) ≡ follow (atnOf b) b i (step (m.viewAt (place i) (lines b) b))
 call-step b I i l = let s = I .small in rw (lt-ltb i 15 (omega arith), lt-ltb i (b .count) l) refl
 
 -- a step of no party is refused
@@ -86,25 +86,26 @@ no-step b i h = test (ltb i 15) (λ t. rw (t, h) refl) (λ f. rw f refl)
 
 -- a source takes the source step
 pub source-step : (b : Bus) → Inv b → (i : ℕ) → i < b .count → isSource (atnOf b) (here b i) ≡ true
-    → m.call b (stepOf i) ≡ follow (atnOf b) b i (sourceEffect (m.viewAt (place i) (lines b) b))
+    → m.call b (stepOf i) ≡ follow (atnOf b) b i (sourceStep (m.viewAt (place i) (lines b) b))
 source-step b I i l so = call-step b I i l ∙ rw so refl
 
 -- An acceptor step is followed by settling alone, lets stand what stands, and changes no control.
-record Calm (st : Standing) (p : Party) (e : Effect) : Type 0 where
+record Calm (v : View) (e : Effect) : Type 0 where
   follows : e .after ≡ after.Settle
-  standing : e .standing ≡ st
-  control : isActive (e .party) ≡ isActive p
+  standing : e .standing ≡ v .standing
+  control : isActive (e .party) ≡ isActive (v .party)
 
-calm-take : (t : Bool) (st : Standing) (p : Party) → Calm st p (take t st p)
-calm-take t Nothing p = record { follows = refl; standing = refl; control = refl }
-calm-take t (Byte s k v e) p = cond-elim (Calm (Byte s k v e) p) t (λ _. record { follows = refl; standing = refl; control = refl }) (λ _. record { follows = refl; standing = refl; control = refl })
+module _ (v : View) where
+  calm-takes : (st : Standing) → Calm v (takes st v)
+  calm-takes Nothing = record { follows = refl; standing = refl; control = refl }
+  calm-takes (Byte s k x e) = cond-elim (Calm v) (v .lines .atn) (λ _. record { follows = refl; standing = refl; control = refl }) (λ _. record { follows = refl; standing = refl; control = refl })
 
-calm-step : (a : Acceptor) (l : Lines) (st : Standing) (p : Party) → Calm st p (acceptorStep a l st p)
-calm-step Aids l st p = record { follows = refl; standing = refl; control = refl }
-calm-step Anrs l st p = cond-elim (Calm st p) (l .atn || not (isFull (p .input))) (λ _. record { follows = refl; standing = refl; control = refl }) (λ _. record { follows = refl; standing = refl; control = refl })
-calm-step Acrs l st p = cond-elim (Calm st p) (l .dav) (λ _. calm-take (l .atn) st p) (λ _. record { follows = refl; standing = refl; control = refl })
-calm-step Acds l st p = record { follows = refl; standing = refl; control = refl }
-calm-step Awns l st p = cond-elim (Calm st p) (l .dav) (λ _. record { follows = refl; standing = refl; control = refl }) (λ _. record { follows = refl; standing = refl; control = refl })
+  calm-step : (a : Acceptor) → Calm v (acceptorIn a v)
+  calm-step Aids = record { follows = refl; standing = refl; control = refl }
+  calm-step Anrs = cond-elim (Calm v) (v .lines .atn || not (isFull (v .party .input))) (λ _. record { follows = refl; standing = refl; control = refl }) (λ _. record { follows = refl; standing = refl; control = refl })
+  calm-step Acrs = cond-elim (Calm v) (v .lines .dav) (λ _. calm-takes (v .standing)) (λ _. record { follows = refl; standing = refl; control = refl })
+  calm-step Acds = record { follows = refl; standing = refl; control = refl }
+  calm-step Awns = cond-elim (Calm v) (v .lines .dav) (λ _. record { follows = refl; standing = refl; control = refl }) (λ _. record { follows = refl; standing = refl; control = refl })
 
 -- party i takes the acceptor step
 abbrev pub Accepts : Bus → ℕ → Type 0
@@ -112,11 +113,11 @@ Accepts b i = (i < b .count) × (isSource (atnOf b) (here b i) ≡ false)
 
 -- the effect of its step
 abbrev pub acts : Bus → ℕ → Effect
-acts b i = acceptorEffect (m.viewAt (place i) (lines b) b)
+acts b i = acceptorStep (m.viewAt (place i) (lines b) b)
 
 module _ (b : Bus) (I : Inv b) (i : ℕ) (A : Accepts b i) where
-  calm : Calm (b .standing) (here b i) (acts b i)
-  calm = calm-step (here b i .acceptor) (lines b) (b .standing) (here b i)
+  calm : Calm (m.viewAt (place i) (lines b) b) (acts b i)
+  calm = calm-step (m.viewAt (place i) (lines b) b) (here b i .acceptor)
 
   pub as-local : m.call b (stepOf i) ≡ local b i (acts b i .said) (acts b i .party) (b .standing)
   as-local = call-step b I i (A .0)

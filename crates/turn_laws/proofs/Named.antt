@@ -19,17 +19,18 @@ use Rattle.parties.proofs.Places.{set-part, each-part}
 use Rattle.effect.specs.Words.{isAccepted}
 use Rattle.effect.specs.Calls.{placeOf}
 use Rattle.effect.specs.Stands.{ofCommand}
-use Rattle.source_step.specs.SourceStep.{ready, ended, sourceStep}
-use Rattle.acceptor_step.specs.AcceptorStep.{take, acceptorStep}
+use Rattle.effect.specs.Effects.{withStanding}
+use Rattle.source_step.specs.SourceStep.{ready, ended, sourceIn}
+use Rattle.acceptor_step.specs.AcceptorStep.{takes, acceptorIn}
 use Rattle.accepted.specs.Accepted.{effectOf}
-use Rattle.host_calls.specs.HostCalls.{read}
+use Rattle.host_calls.specs.HostCalls.{readOut}
 use Rattle.addresses.specs.Addresses.{badBuild}
 use Rattle.bus.specs.Record.{here, lines, buildExtended}
 use Rattle.bus.specs.Following.{followed}
 use Rattle.bus.specs.Machine as m
 use Rattle.bus.specs.declared.Bus.{Bus}
 use Rattle.bus.specs.declared.Answer.{Answer}
-use Rattle.bus.specs.Types.{Place, Name, Party, Idle, Active, Source, Sids, Sgns, Sdys, Strs, Acceptor, Aids, Anrs, Acrs, Acds, Awns, Slot, Empty, Full, Kind, Found, Lines, Standing, Nothing, Byte, Call, After, Effect, View}
+use Rattle.bus.specs.Types.{Name, Party, Idle, Active, Source, Sids, Sgns, Sdys, Strs, Acceptor, Aids, Anrs, Acrs, Acds, Awns, Slot, Empty, Full, Kind, Standing, Nothing, Byte, Call, After, Outcome, Effect, View}
 use Rattle.bus.specs.Types.ruling
 use Rattle.bus.specs.Types.after
 use Rattle.bus.specs.Types.call-of
@@ -41,52 +42,53 @@ abbrev nameOf : Party → Name
 nameOf p = p .role .name
 
 -- An accepted call leaves its own party's name.
-module _ (p : Party) where
+module _ (v : View) where
   abbrev Same : Effect → Type 0
-  Same e = nameOf (e .party) ≡ nameOf p
+  Same e = nameOf (e .party) ≡ nameOf (v .party)
 
-  ready-same : (o : Slot) (k : Kind) (l : Lines) (st : Standing) (i : Place) → Same (ready o k l st i p)
-  ready-same Empty k l st i = refl
-  ready-same (Full v e) k l st i = cond-elim Same (l .nrfd) (λ _. refl) (λ _. cond-elim Same (l .ndac) (λ _. refl) (λ _. refl))
+  ready-same : (o : Slot) (k : Kind) → Same (ready o k v)
+  ready-same Empty k = refl
+  ready-same (Full x e) k = cond-elim Same (v .lines .nrfd) (λ _. refl) (λ _. cond-elim Same (v .lines .ndac) (λ _. refl) (λ _. refl))
 
-  ended-same : (f : Found) (st : Standing) → Same (ended f st p)
-  ended-same f Nothing = refl
-  ended-same f (Byte s k v e) = cond-elim (λ (x : Party). nameOf x ≡ nameOf p) (ofCommand k) (λ _. hear-name (meaning v) (p .role)) (λ _. refl)
+  ended-same : (st : Standing) → Same (ended st v)
+  ended-same Nothing = refl
+  ended-same (Byte s k x e) = cond-elim (λ (q : Party). nameOf q ≡ nameOf (v .party)) (ofCommand k) (λ _. hear-name (meaning x) (v .party .role)) (λ _. refl)
 
-  source-same : (s : Source) (o : Slot) (k : Kind) (l : Lines) (f : Found) (st : Standing) (i : Place) → Same (sourceStep s o k l f st i p)
-  source-same Sids o k l f st i = refl
-  source-same Sgns o k l f st i = cond-elim Same (isFull o) (λ _. refl) (λ _. refl)
-  source-same Sdys o k l f st i = ready-same o k l st i
-  source-same Strs o k l f st i = cond-elim Same (l .ndac) (λ _. refl) (λ _. ended-same f st)
+  source-same : (s : Source) (o : Slot) (k : Kind) → Same (sourceIn s o k v)
+  source-same Sids o k = refl
+  source-same Sgns o k = cond-elim Same (isFull o) (λ _. refl) (λ _. refl)
+  source-same Sdys o k = ready-same o k
+  source-same Strs o k = cond-elim Same (v .lines .ndac) (λ _. refl) (λ _. ended-same (v .standing))
 
-  take-same : (t : Bool) (st : Standing) → Same (take t st p)
-  take-same t Nothing = refl
-  take-same t (Byte s k v e) = cond-elim Same t (λ _. hear-name (meaning v) (p .role)) (λ _. refl)
+  takes-same : (st : Standing) → Same (takes st v)
+  takes-same Nothing = refl
+  takes-same (Byte s k x e) = cond-elim Same (v .lines .atn) (λ _. hear-name (meaning x) (v .party .role)) (λ _. refl)
 
-  acceptor-same : (a : Acceptor) (l : Lines) (st : Standing) → Same (acceptorStep a l st p)
-  acceptor-same Aids l st = refl
-  acceptor-same Anrs l st = cond-elim Same (l .atn || not (isFull (p .input))) (λ _. refl) (λ _. refl)
-  acceptor-same Acrs l st = cond-elim Same (l .dav) (λ _. take-same (l .atn) st) (λ _. refl)
-  acceptor-same Acds l st = refl
-  acceptor-same Awns l st = cond-elim Same (l .dav) (λ _. refl) (λ _. refl)
+  acceptor-same : (a : Acceptor) → Same (acceptorIn a v)
+  acceptor-same Aids = refl
+  acceptor-same Anrs = cond-elim Same (v .lines .atn || not (isFull (v .party .input))) (λ _. refl) (λ _. refl)
+  acceptor-same Acrs = cond-elim Same (v .lines .dav) (λ _. takes-same (v .standing)) (λ _. refl)
+  acceptor-same Acds = refl
+  acceptor-same Awns = cond-elim Same (v .lines .dav) (λ _. refl) (λ _. refl)
 
-read-same : (s : Slot) (v : View) → Same (v .party) (read s v)
-read-same Empty v = refl
-read-same (Full x e) v = refl
+  read-same : (s : Slot) → Same (withStanding (v .standing) (readOut s (v .party)))
+  read-same Empty = refl
+  read-same (Full x e) = refl
 
-effect-same : (v : View) (c : Call) → Same (v .party) (effectOf v c)
-effect-same v (call-of.Of i act-of.Step) = let l = v .lines in let p = v .party in cond-elim (Same p) (isSource (l .atn) p)
-    (λ _. source-same p (p .source) (offer (isPolled (l .atn) p) p) (kindOf (isActive p) (isPolled (l .atn) p)) l (v .talker) (v .standing) (v .place))
-    (λ _. acceptor-same p (p .acceptor) l (v .standing))
+effect-same : (v : View) (c : Call) → Same v (effectOf v c)
+effect-same v (call-of.Of i act-of.Step) = let t = v .lines .atn in let p = v .party in cond-elim (Same v) (isSource t p)
+    (λ _. source-same v (p .source) (offer (isPolled t p) p) (kindOf (isActive p) (isPolled t p)))
+    (λ _. acceptor-same v (p .acceptor))
 effect-same v (call-of.Of i (act-of.Write x e)) = refl
-effect-same v (call-of.Of i act-of.Read) = read-same (v .party .input) v
+effect-same v (call-of.Of i act-of.Read) = read-same v (v .party .input)
 effect-same v (call-of.Of i (act-of.PollRegister x)) = refl
 effect-same v (call-of.Of i (act-of.ListenOnly on)) = refl
 effect-same v (call-of.Of i (act-of.TalkOnly on)) = refl
 effect-same v (call-of.Of i act-of.TakeControl) = refl
 effect-same v (call-of.Of i act-of.GoToStandby) = refl
 effect-same v (call-of.Of i act-of.InterfaceClear) = refl
-effect-same v (call-of.Of i act-of.Reset) = cond-elim (Same (v .party)) (isActive (v .party)) (λ _. refl) (λ _. refl)
+effect-same v (call-of.Of i act-of.Reset) =
+    cond-elim (λ (o : Outcome). nameOf (o .party) ≡ nameOf (v .party)) (isActive (v .party)) (λ _. refl) (λ _. refl)
 effect-same v (call-of.Of i act-of.Drop) = refl
 effect-same v (call-of.Of i (act-of.SecondRequest on)) = refl
 effect-same v call-of.Lines = refl

@@ -17,8 +17,8 @@ use Rattle.party.specs.Sending.{isSource, isPolled, offer}
 use Rattle.parties.specs.Places.{place, otherTalker}
 use Rattle.parties.proofs.Places.{some-none}
 use Rattle.effect.specs.Effects.{say}
-use Rattle.source_step.specs.SourceStep.{put, noacc, ready, ended, sourceStep}
-use Rattle.acceptor_step.specs.AcceptorStep.{take, acceptorStep}
+use Rattle.source_step.specs.SourceStep.{put, noacc, ready, ended, sourceIn}
+use Rattle.acceptor_step.specs.AcceptorStep.{takes, acceptorIn}
 use Rattle.bus.specs.Record.{here, lines, buildExtended}
 use Rattle.bus.specs.Settling.{answered}
 use Rattle.bus.specs.Following.{follow}
@@ -28,7 +28,7 @@ use Rattle.bus.proofs.Putting.{nothing-stands}
 use Rattle.bus.proofs.Reached.{reached, one-source}
 use Rattle.bus.specs.declared.Bus.{Bus}
 use Rattle.bus.specs.declared.Answer.{Answer}
-use Rattle.bus.specs.Types.{Party, Source, Sids, Sgns, Sdys, Strs, Acceptor, Aids, Anrs, Acrs, Acds, Awns, Slot, Empty, Full, Kind, Command, Data, Status, Event, Lines, Found, Standing, Nothing, Byte, Said, After, Effect}
+use Rattle.bus.specs.Types.{Party, Source, Sids, Sgns, Sdys, Strs, Acceptor, Aids, Anrs, Acrs, Acds, Awns, Slot, Empty, Full, Kind, Command, Data, Status, Event, Standing, Nothing, Byte, Said, After, Effect, View}
 use Rattle.bus.specs.Types.ev
 use Rattle.bus.specs.Types.after
 use Rattle.turn_laws.specs.Steps.{stepOf, steps}
@@ -47,16 +47,19 @@ in-aids Awns r d = no (cc)
 abbrev Else : Effect → Type 0
 Else x = x .said .event ≡ ev.Noacc → ⊥
 
-take-else : (t : Bool) (st : Standing) (p : Party) → Else (take t st p)
-take-else t Nothing p = λ h. no (cc)
-take-else t (Byte s k v e) p = cond-elim Else t (λ _. hear-events (λ (x : Event). x ≡ ev.Noacc → ⊥) (λ h. no (cc)) (λ h. no (cc)) (λ h. no (cc)) (meaning v) (p .role .listen)) (λ _ h. no (cc))
+module _ (v : View) where
+  takes-else : (st : Standing) → Else (takes st v)
+  takes-else Nothing = λ h. no (cc)
+  takes-else (Byte s k x e) = cond-elim Else (v .lines .atn)
+      (λ _. hear-events (λ (y : Event). y ≡ ev.Noacc → ⊥) (λ h. no (cc)) (λ h. no (cc)) (λ h. no (cc)) (meaning x) (v .party .role .listen))
+      (λ _ h. no (cc))
 
-acceptor-else : (a : Acceptor) (l : Lines) (st : Standing) (p : Party) → Else (acceptorStep a l st p)
-acceptor-else Aids l st p = λ h. no (cc)
-acceptor-else Anrs l st p = cond-elim Else (l .atn || not (isFull (p .input))) (λ _ h. no (cc)) (λ _ h. no (cc))
-acceptor-else Acrs l st p = cond-elim Else (l .dav) (λ _. take-else (l .atn) st p) (λ _ h. no (cc))
-acceptor-else Acds l st p = λ h. no (cc)
-acceptor-else Awns l st p = cond-elim Else (l .dav) (λ _ h. no (cc)) (λ _ h. no (cc))
+  acceptor-else : (a : Acceptor) → Else (acceptorIn a v)
+  acceptor-else Aids = λ h. no (cc)
+  acceptor-else Anrs = cond-elim Else (v .lines .atn || not (isFull (v .party .input))) (λ _ h. no (cc)) (λ _ h. no (cc))
+  acceptor-else Acrs = cond-elim Else (v .lines .dav) (λ _. takes-else (v .standing)) (λ _ h. no (cc))
+  acceptor-else Acds = λ h. no (cc)
+  acceptor-else Awns = cond-elim Else (v .lines .dav) (λ _ h. no (cc)) (λ _ h. no (cc))
 
 module _ (b : Bus) (I : Inv b) where
   -- a step that leaves its party as it was leaves the bus
@@ -70,7 +73,7 @@ module _ (b : Bus) (I : Inv b) where
     none : b .standing ≡ Nothing
     none = nothing-stands (b .count) (atnOf b) (here b) (b .standing) (I .pre) (quiet b I) p (A .source) (λ h. let z = A .ready in no (cc))
 
-    as-noacc : m.call b (stepOf p) ≡ follow (atnOf b) b p (noacc kind v e (b .standing) (here b p))
+    as-noacc : m.call b (stepOf p) ≡ follow (atnOf b) b p (noacc kind v e (m.viewAt (place p) (lines b) b))
     unfolding kind
     as-noacc = source-step b I p (A .there) (A .source) ∙ rw (A .ready, A .offers, A .quiet, A .nobody) refl
 
@@ -102,10 +105,13 @@ module _ (b : Bus) (I : Inv b) where
 
   -- the other way: a step that says noacc is that of a source alone
   module _ (p : ℕ) (l : p < b .count) where
+    abbrev seen : View
+    seen = m.viewAt (place p) (lines b) b
+
     Told : Effect → Type 0
     Told x = follow (atnOf b) b p x .event ≡ ev.Noacc → (v : ℕ) × (e : Bool) × Alone b p v e
 
-    put-else : (k : Kind) (v : ℕ) (e : Bool) → Told (put k v e (place p) (here b p))
+    put-else : (k : Kind) (v : ℕ) (e : Bool) → Told (put k v e seen)
     unfolding Told
     put-else Command v e h = no (cc)
     put-else Data v e h = no (cc)
@@ -119,10 +125,10 @@ module _ (b : Bus) (I : Inv b) where
     over-else after.Attend v e q h = no (cc)
     over-else after.Clear v e q h = no (cc)
 
-    ended-else : (f : Found) (st : Standing) → Told (ended f st (here b p))
+    ended-else : (st : Standing) → Told (ended st seen)
     unfolding Told
-    ended-else f Nothing = λ h. no (cc)
-    ended-else f (Byte s k v e) = over-else (ended f (Byte s k v e) (here b p) .after) v e (ended f (Byte s k v e) (here b p) .party)
+    ended-else Nothing = λ h. no (cc)
+    ended-else (Byte s k v e) = over-else (ended (Byte s k v e) seen .after) v e (ended (Byte s k v e) seen .party)
 
     module _ (so : isSource (atnOf b) (here b p) ≡ true) where
       its-offer : Slot
@@ -131,25 +137,25 @@ module _ (b : Bus) (I : Inv b) where
       its-kind : Kind
       its-kind = kindOf (isActive (here b p)) (isPolled (atnOf b) (here b p))
 
-      ready-alone : here b p .source ≡ Sdys → (o : Slot) → its-offer ≡ o → Told (ready o its-kind (lines b) (b .standing) (place p) (here b p))
+      ready-alone : here b p .source ≡ Sdys → (o : Slot) → its-offer ≡ o → Told (ready o its-kind seen)
       unfolding Told its-offer
       ready-alone ex Empty eo = λ h. no (cc)
       ready-alone ex (Full v e) eo = cond-elim Told (lines b .nrfd) (λ _ h. no (cc))
           (λ nr. cond-elim Told (lines b .ndac) (λ _. put-else its-kind v e)
           (λ nd _. (v, e, record { there = l; source = so; ready = ex; offers = eo; quiet = nr; nobody = nd })))
 
-      by-state : (x : Source) → here b p .source ≡ x → (f : Found) → Told (sourceStep x its-offer its-kind (lines b) f (b .standing) (place p) (here b p))
+      by-state : (x : Source) → here b p .source ≡ x → Told (sourceIn x its-offer its-kind seen)
       unfolding Told
-      by-state Sids ex f = λ h. no (cc)
-      by-state Sgns ex f = cond-elim Told (isFull its-offer) (λ _ h. no (cc)) (λ _ h. no (cc))
-      by-state Sdys ex f = ready-alone ex its-offer refl
-      by-state Strs ex f = cond-elim Told (lines b .ndac) (λ _ h. no (cc)) (λ _. ended-else f (b .standing))
+      by-state Sids ex = λ h. no (cc)
+      by-state Sgns ex = cond-elim Told (isFull its-offer) (λ _ h. no (cc)) (λ _ h. no (cc))
+      by-state Sdys ex = ready-alone ex its-offer refl
+      by-state Strs ex = cond-elim Told (lines b .ndac) (λ _ h. no (cc)) (λ _. ended-else (b .standing))
 
     inside-only : m.call b (stepOf p) .event ≡ ev.Noacc → (v : ℕ) × (e : Bool) × Alone b p v e
     unfolding Told its-offer its-kind
     inside-only h = test (isSource (atnOf b) (here b p))
-        (λ so. by-state so (here b p .source) refl (otherTalker (b .count) p (b .parties)) (sym (ap (λ (a : Answer). a .event) (source-step b I p l so)) ∙ h))
-        (λ ns. absurd (acceptor-else (here b p .acceptor) (lines b) (b .standing) (here b p) (sym (event-of b I p (l, ns)) ∙ h)))
+        (λ so. by-state so (here b p .source) refl (sym (ap (λ (a : Answer). a .event) (source-step b I p l so)) ∙ h))
+        (λ ns. absurd (acceptor-else seen (here b p .acceptor) (sym (event-of b I p (l, ns)) ∙ h)))
 
   only : (p : ℕ) → m.call b (stepOf p) .event ≡ ev.Noacc → (v : ℕ) × (e : Bool) × Alone b p v e
   only p h = test (ltb p (b .count)) (λ t. inside-only p (ltb-true p (b .count) t) h) (λ f. let z = ap (λ (a : Answer). a .event) (no-step b p f) in no (cc))

@@ -12,7 +12,7 @@ returns c =
 returns-2 : tie.Need-returns-2
 returns-2 c =
     simp (
-      c .from-anrs .ensures,
+      c .readies .ensures,
       c .before .is-full .ensures,
       c .before .before .enum-told2 .given .1,
     )

@@ -14,18 +14,19 @@ returns-2 c =
     simp (
       c .hears .ensures,
       c .before .if1 .taken,
+      c .before .before .known-told .given .1,
       c .before .before .before .st .given .1,
+      c .before .before .before .before .match .keys2,
     )
 
 returns-3 : tie.Need-returns-3
 returns-3 c =
     simp (
-      c .does .ensures,
-      c .before .say .ensures,
-      c .before .before .with-acceptor .ensures,
-      c .before .before .before .with-input .ensures,
-      c .before .before .before .before .if1 .left,
-      c .before .before .before .before .before .before .st .given .1,
+      c .fills .ensures,
+      c .before .if1 .left,
+      c .before .before .known-told .given .1,
+      c .before .before .before .st .given .1,
+      c .before .before .before .before .match .keys2,
     )
 
 pub takes-spec : {M : Type 1} → statement M
@@ -33,4 +34,4 @@ takes-spec =
     tie.close
     (tie.spec
     (λ c. search needs) (λ c κs. search needs) (λ c. search needs) (λ c κs. search needs) (λ c κs. search needs)
-    (λ c κs. search needs) (λ c κs. search needs) (λ c κs. search needs) returns returns-2 returns-3)
+    returns returns-2 returns-3)

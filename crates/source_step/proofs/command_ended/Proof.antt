@@ -5,14 +5,12 @@ use Rattle.source_step.proofs.command_ended.Tie as tie
 returns : tie.Need-returns
 returns c =
     simp (
-      c .then .ensures,
-      c .before .does .ensures,
-      c .before .before .say .ensures,
-      c .before .before .before .pass-to .ensures,
-      c .before .before .before .before .passes-control .ensures,
-      c .before .before .before .before .before .meaning-of .ensures,
-      c .before .before .before .before .before .before .with-source .ensures,
-      c .before .before .before .before .before .before .before .heard .ensures,
+      c .with-source .ensures,
+      c .before .heard .ensures,
+      c .before .before .pass-to .ensures,
+      c .before .before .before .passes-control .ensures,
+      c .before .before .before .before .meaning-of .ensures,
+      c .before .before .before .before .before .say .ensures,
     )
 
 pub command-ended-spec : {M : Type 1} → statement M
@@ -20,4 +18,4 @@ command-ended-spec =
     tie.close
     (tie.spec
     (λ c κs. search needs) (λ c κs. search needs) (λ c κs. search needs) (λ c κs. search needs) (λ c κs. search needs)
-    (λ c κs. search needs) (λ c κs. search needs) (λ c κs. search needs) returns)
+    (λ c κs. search needs) returns)

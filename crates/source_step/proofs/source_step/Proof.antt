@@ -1,66 +1,42 @@
-use mathlib.Core.Path.{sym, _∙_}
 use borrow.Author.Needs.{needs}
 use Rattle.source_step.proofs.source_step.Statement.{statement}
 use Rattle.source_step.proofs.source_step.Tie as tie
 
 returns : tie.Need-returns
-returns c =
-    simp (
-      c .stay .ensures,
-      c .before .enum-told .given .1,
-    )
+returns c = simp (c .stay .ensures, c .before .enum-told .given .1)
 
 returns-2 : tie.Need-returns-2
 returns-2 c =
-    let b = c .before .before .before .before .before .before .before .before .before in
     simp (
-      c .moved .ensures,
-      c .before .with-source .ensures,
-      rw (c .before .before .before .before .before .before .before .before .offers .ensures, b .is-polled .ensures) at (sym (c .before .before .before .is-full .ensures) ∙ c .before .before .if1 .taken),
-      c .before .before .before .before .enum-told2 .given .1,
+      c .offering .ensures,
+      c .before .is-full .ensures,
+      c .before .before .enum-told2 .given .1,
+      c .before .before .before .before .before .before .offer .ensures,
+      c .before .before .before .before .before .before .before .is-polled .ensures,
     )
 
 returns-3 : tie.Need-returns-3
 returns-3 c =
-    let b = c .before .before .before .before .before .before .before .before in
     simp (
-      c .stay2 .ensures,
-      rw (c .before .before .before .before .before .before .before .offers .ensures, b .is-polled .ensures) at (sym (c .before .before .is-full .ensures) ∙ c .before .if1 .left),
-      c .before .before .before .enum-told2 .given .1,
-    )
-
-returns-4 : tie.Need-returns-4
-returns-4 c =
-    simp (
-      c .from-sdys .ensures,
+      c .ready .ensures,
       c .before .enum-told3 .given .1,
       c .before .before .before .of .ensures,
       c .before .before .before .before .is-active .ensures,
-      c .before .before .before .before .before .offers .ensures,
+      c .before .before .before .before .before .offer .ensures,
       c .before .before .before .before .before .before .is-polled .ensures,
     )
 
-returns-5 : tie.Need-returns-5
-returns-5 c =
-    simp (
-      c .stay3 .ensures,
-      c .before .if2 .taken,
-      c .before .before .enum-told4 .given .1,
-    )
+returns-4 : tie.Need-returns-4
+returns-4 c = simp (c .stay2 .ensures, c .before .if1 .taken, c .before .before .enum-told4 .given .1)
 
-returns-6 : tie.Need-returns-6
-returns-6 c =
-    simp (
-      c .over .ensures,
-      c .before .if2 .left,
-      c .before .before .enum-told4 .given .1,
-    )
+returns-5 : tie.Need-returns-5
+returns-5 c = simp (c .ended .ensures, c .before .if1 .left, c .before .before .enum-told4 .given .1)
 
 pub source-step-spec : {M : Type 1} → statement M
 source-step-spec =
     tie.close
     (tie.spec
     (λ c κs. search needs) (λ c κs. search needs) (λ c κs. search needs) (λ c κs. search needs) (λ c. search needs)
-    (λ c κs. search needs) (λ c. search needs) (λ c κs. search needs) (λ c κs. search needs) (λ c κs. search needs)
-    (λ c κs. search needs) (λ c. search needs) (λ c κs. search needs) (λ c. search needs) (λ c κs. search needs)
-    (λ c κs. search needs) returns returns-2 returns-3 returns-4 returns-5 returns-6)
+    (λ c κs. search needs) (λ c. search needs) (λ c κs. search needs) (λ c κs. search needs) (λ c. search needs)
+    (λ c κs. search needs) (λ c. search needs) (λ c κs. search needs) (λ c κs. search needs)
+    returns returns-2 returns-3 returns-4 returns-5)
