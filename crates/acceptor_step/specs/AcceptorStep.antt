@@ -2,11 +2,11 @@
 -- Assumes nothing.
 use Prim.Native.Nat.{ℕ}
 use mathlib.Core.Bool.{Bool, not, cond, _||_}
-use Rattle.message.specs.Meaning.{meaning}
+use Rattle.message.specs.Meaning.{meaningOf}
 use Rattle.role.specs.Hearing.{hearEvent}
 use Rattle.offer.specs.Offer.{isFull}
 use Rattle.party.specs.Parts.{withAcceptor, withInput}
-use Rattle.party.specs.Hearing.{heardBy}
+use Rattle.party.specs.Hearing.{partyHeard}
 use Rattle.acceptor_step.specs.Types.{Acceptor, Aids, Anrs, Acrs, Acds, Awns, Full, Standing, Nothing, Byte, Effect, View}
 use Rattle.acceptor_step.specs.Types.ev
 use Rattle.effect.specs.Effects.{say, does, stay, moved}
@@ -18,7 +18,7 @@ fills x e v = does (say ev.Took x e 0) (withAcceptor Acds (withInput (Full x e) 
 -- "with ATN true the byte is heard"
 abbrev pub hears : ℕ → Bool → View → Effect
 hears x e v = let p = v .party in
-    does (say (hearEvent (meaning x) (p .role .listen)) x e 0) (withAcceptor Acds (heardBy x p)) (v .standing)
+    does (say (hearEvent (meaningOf x) (p .role .listen)) x e 0) (withAcceptor Acds (partyHeard x p)) (v .standing)
 
 -- "take and go to ACDS": what is taken is the byte that stands.
 abbrev pub takes : Standing → View → Effect

@@ -30,8 +30,8 @@ fn hears(byte: u8, end: bool, v: View) -> Effect
     let st = v.standing;
     let role = p.role;
     let event = hear_event(meaning_of(byte), role.listen);
-    let party = p.heard(byte).with_acceptor(Acceptor::Acds);
-    Effect::does(Said::say(event, byte, end, 0), party, st)
+    let said = Said::say(event, byte, end, 0);
+    Effect::does(said, p.heard(byte).with_acceptor(Acceptor::Acds), st)
 }
 
 // DAV is true: what stands is taken.

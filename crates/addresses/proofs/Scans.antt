@@ -12,7 +12,7 @@ use lib.Seq.{drop-cons, take-all}
 use Rattle.message.specs.Meaning.{address}
 use Rattle.names.specs.declared.Name.{Name}
 use Rattle.names.specs.Names.{plain}
-use Rattle.party.specs.Parts.{newborn}
+use Rattle.party.specs.Parts.{builtParty}
 use Rattle.parties.proofs.Loops.{or-assoc}
 use Rattle.party.specs.declared.Party.{Party}
 use Rattle.addresses.specs.Addresses.{secondaryOf, names, placed}
@@ -59,13 +59,13 @@ module _ (g : List Name → Bool) (h : Name → List Name → Bool) (none : g []
   scan-done m = sym (or-false f) ∙ ap (λ (x : Bool). f || x) (sym none ∙ sym (ap g (drop-of-length-le l m))) ∙ inv
 
 -- the places: one name more, and as many as there are places
-placed-suc : (n : ℕ) (xs : List Name) (k : ℕ) (d : Name) → k < length xs → k < n → set (placed n (take k xs)) k (newborn (getD xs k d)) ≡ placed n (take (suc k) xs)
+placed-suc : (n : ℕ) (xs : List Name) (k : ℕ) (d : Name) → k < length xs → k < n → set (placed n (take k xs)) k (builtParty (getD xs k d)) ≡ placed n (take (suc k) xs)
 placed-suc zero xs k d h m = absurd (not-suc-le-zero m)
 placed-suc (suc n) [] k d h m = absurd (not-suc-le-zero h)
 placed-suc (suc n) (x ∷ xs) zero d h m = refl
-placed-suc (suc n) (x ∷ xs) (suc k) d h m = ap (_∷_ (newborn x)) (placed-suc n xs k d (le-of-suc-le-suc h) (le-of-suc-le-suc m))
+placed-suc (suc n) (x ∷ xs) (suc k) d h m = ap (_∷_ (builtParty x)) (placed-suc n xs k d (le-of-suc-le-suc h) (le-of-suc-le-suc m))
 
-pub place-turn : (xs : List Name) (k : ℕ) (d : Name) {out : List Party} {p : Party} → k < length xs → k < 15 → out ≡ placed 15 (take k xs) → p ≡ newborn (getD xs k d) → set out k p ≡ placed 15 (take (k + 1) xs)
+pub place-turn : (xs : List Name) (k : ℕ) (d : Name) {out : List Party} {p : Party} → k < length xs → k < 15 → out ≡ placed 15 (take k xs) → p ≡ builtParty (getD xs k d) → set out k p ≡ placed 15 (take (k + 1) xs)
 place-turn xs k d h m i e = rw (add-one k, i, e) (placed-suc 15 xs k d h m)
 
 pub place-done : (xs : List Name) (k : ℕ) {out : List Party} → length xs ≤ k → out ≡ placed 15 (take k xs) → out ≡ placed 15 xs

@@ -9,10 +9,10 @@ use Rattle.message.specs.Meaning.{address, secondary}
 use Rattle.names.specs.declared.Secondary.{Secondary}
 use Rattle.names.specs.declared.Secondary.the-variants.{Absent, Given}
 use Rattle.names.specs.declared.Name.{Name}
-use Rattle.names.specs.Names.{plain, over30, clash}
+use Rattle.names.specs.Names.{plain, isOver30, clashes}
 use Rattle.party.specs.declared.Place.{Place}
 use Rattle.party.specs.declared.Party.{Party}
-use Rattle.party.specs.Parts.{idle, newborn}
+use Rattle.party.specs.Parts.{idle, builtParty}
 
 -- A secondary as a host gives it: 255 says that there is none.
 abbrev pub secondaryOf : ℕ → Secondary
@@ -29,15 +29,15 @@ names (a ∷ xs) (s ∷ ss) = record { address = address a; secondary = secondar
 abbrev pub placed : ℕ → List Name → List Party
 placed zero xs = []
 placed (suc n) [] = idle ∷ placed n []
-placed (suc n) (x ∷ xs) = newborn x ∷ placed n xs
+placed (suc n) (x ∷ xs) = builtParty x ∷ placed n xs
 
 abbrev pub anyOver30 : List Name → Bool
 anyOver30 [] = false
-anyOver30 (x ∷ xs) = over30 x || anyOver30 xs
+anyOver30 (x ∷ xs) = isOver30 x || anyOver30 xs
 
 abbrev pub clashesWith : Name → List Name → Bool
 clashesWith n [] = false
-clashesWith n (x ∷ xs) = clash n x || clashesWith n xs
+clashesWith n (x ∷ xs) = clashes n x || clashesWith n xs
 
 abbrev pub twoClash : List Name → Bool
 twoClash [] = false

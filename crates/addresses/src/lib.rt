@@ -57,7 +57,7 @@ fn any_over_30(addresses: &[u8], secondaries: &[u8]) -> bool
 }
 
 // May no bus have a party of this name beside one of those from place `from` on?
-fn clashes_from(n: Name, addresses: &[u8], secondaries: &[u8], from: usize) -> bool
+fn clashes_with(n: Name, addresses: &[u8], secondaries: &[u8], from: usize) -> bool
     ensures { λ r. ⌜ r ≡ clashesWith n (drop from (names (now (addresses .entry)) (now (secondaries .entry)))) ⌝ }
 {
     let mut found = false;
@@ -77,13 +77,13 @@ fn two_clash(addresses: &[u8], secondaries: &[u8]) -> bool
     while i < addresses.len() {
         let name = name_at(addresses, secondaries, i);
         i = i + 1;
-        found = or(found, clashes_from(name, addresses, secondaries, i));
+        found = or(found, clashes_with(name, addresses, secondaries, i));
     }
     found
 }
 
 // Is this no bus to be built?
-pub fn is_bad(addresses: &[u8], secondaries: &[u8], system: Place) -> bool
+pub fn bad_build(addresses: &[u8], secondaries: &[u8], system: Place) -> bool
     ensures { λ r. ⌜ r ≡ badBuild (names (now (addresses .entry)) (now (secondaries .entry))) system ⌝ }
 {
     let n = addresses.len();

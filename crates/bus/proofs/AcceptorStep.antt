@@ -4,11 +4,11 @@ use mathlib.Core.Path.{_≡_, refl, sym, ap, _∙_, subst}
 use mathlib.Core.Bool.{Bool, true, false, not, _||_}
 use mathlib.Core.Logic.{inl, inr}
 use Prim.Native.Nat.{ℕ, _<_}
-use Rattle.message.specs.Meaning.{meaning}
+use Rattle.message.specs.Meaning.{meaningOf}
 use Rattle.offer.specs.Offer.{isFull}
 use Rattle.party.specs.Parts.{withAcceptor}
 use Rattle.party.specs.Driving.{isActive}
-use Rattle.role.specs.Hearing.{hear, hearEvent}
+use Rattle.role.specs.Hearing.{roleHeard, hearEvent}
 use Rattle.party.specs.Sending.{isSource}
 use Rattle.role.proofs.Logic.{no, test, cond-elim, or-right}
 use Rattle.role.proofs.Roles.{weak-same, hear-single, hear-name, hear-events}
@@ -39,12 +39,12 @@ record TakeEvent (x : Event) : Type 0 where
   notHost : isHostPut x ≡ false
   notTook : x ≡ ev.Took → ⊥
 
-hear-event : (v : ℕ) (listen : Bool) → TakeEvent (hearEvent (meaning v) listen)
+hear-event : (v : ℕ) (listen : Bool) → TakeEvent (hearEvent (meaningOf v) listen)
 hear-event v l = hear-events TakeEvent
     (record { notPut = refl; notEnd = refl; take = refl; notHost = refl; notTook = λ e. no (cc) })
     (record { notPut = refl; notEnd = refl; take = refl; notHost = refl; notTook = λ e. no (cc) })
     (record { notPut = refl; notEnd = refl; take = refl; notHost = refl; notTook = λ e. no (cc) })
-    (meaning v) l
+    (meaningOf v) l
 
 module _ (b : Bus) (I : Inv b) (p : Place) (l : p .0 < b .count) (ns : isSource (atnOf b) (here b (p .0)) ≡ false) where
   -- what an effect of this step comes to
@@ -73,7 +73,7 @@ module _ (b : Bus) (I : Inv b) (p : Place) (l : p .0 < b .count) (ns : isSource 
   unfolding G
   hear-good s k v e ea es t = kept-good b (call-of.Of p act-of.Step) I (p .0) l (hears v e seen .said) new
       (record {
-        name = hear-name (meaning v) (q .role);
+        name = hear-name (meaningOf v) (q .role);
         act = refl;
         ctl = λ x. x;
         strs = λ x. x;
@@ -83,7 +83,7 @@ module _ (b : Bus) (I : Inv b) (p : Place) (l : p .0 < b .count) (ns : isSource 
         others = λ _ _ x. no (cc);
         listens = λ x. no (cc);
         joins = λ x. no (cc);
-        apart = hear-single (meaning v) (q .role) (I .pre .apart (p .0));
+        apart = hear-single (meaningOf v) (q .role) (I .pre .apart (p .0));
         empty = λ x. no (cc);
         polled = λ x. absurd (not-sending x);
         polls = λ x. absurd (not-sending x);
@@ -106,17 +106,17 @@ module _ (b : Bus) (I : Inv b) (p : Place) (l : p .0 < b .count) (ns : isSource 
       new : Party
       new = hears v e seen .party
 
-      E : TakeEvent (hearEvent (meaning v) (q .role .listen))
+      E : TakeEvent (hearEvent (meaningOf v) (q .role .listen))
       E = hear-event v (q .role .listen)
 
       cmd : isCommand (b .standing) ≡ true
       cmd = I .pre .kind (rw es) ∙ t
 
       -- what was waited for has come
-      before : look (b .standing) (p .0) q ≡ hear (meaning v) (q .role)
-      before = look-on (b .standing) (p .0) q (rw (cmd, ea) (or-right (sentBy (p .0) (b .standing)) refl)) ∙ ap (λ (st : Standing). hear (codeOf st) (q .role)) es
+      before : look (b .standing) (p .0) q ≡ roleHeard (meaningOf v) (q .role)
+      before = look-on (b .standing) (p .0) q (rw (cmd, ea) (or-right (sentBy (p .0) (b .standing)) refl)) ∙ ap (λ (st : Standing). roleHeard (codeOf st) (q .role)) es
 
-      later : look (b .standing) (p .0) new ≡ hear (meaning v) (q .role)
+      later : look (b .standing) (p .0) new ≡ roleHeard (meaningOf v) (q .role)
       later = look-off (b .standing) (p .0) new (rw (cmd, not-mine cmd))
 
   took-good : (s : Place) (k : Kind) (v : ℕ) (e : Bool) → here b (p .0) .acceptor ≡ Acrs → b .standing ≡ Byte s k v e → atnOf b ≡ false

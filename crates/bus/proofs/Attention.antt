@@ -12,7 +12,7 @@ use borrow.Author.Tests.{ltb-true, ltb-false}
 use Rattle.party.specs.Parts.{idle, heldBytes}
 use Rattle.offer.specs.Offer.{isFull}
 use Rattle.party.specs.Driving.{isActive}
-use Rattle.party.specs.Settling.{attended, attendedAcceptor, settled}
+use Rattle.party.specs.Settling.{attended, acceptorAttended, settled}
 use Rattle.role.proofs.Logic.{no}
 use Rattle.role.proofs.Roles.{nameOf, Apart, marked, unmarked, Single}
 use Rattle.party.proofs.Settled.{attended-unmarked}
@@ -59,7 +59,7 @@ anrs : Taker Anrs → ⊥
 anrs (inl e) = no (cc)
 anrs (inr e) = no (cc)
 
-attended-taker : (t x y : Bool) → Taker (attendedAcceptor t x y) → ⊥
+attended-taker : (t x y : Bool) → Taker (acceptorAttended t x y) → ⊥
 attended-taker true true y e = aids e
 attended-taker true false y e = anrs e
 attended-taker false x true e = anrs e

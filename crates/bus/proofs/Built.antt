@@ -10,8 +10,8 @@ use lib.Dec.{ltb, eqb}
 use lib.ListN.{length, getD}
 use borrow.Author.Tests.{ltb-true, ltb-false}
 use Rattle.message.specs.Meaning.{address}
-use Rattle.names.specs.Names.{plain, clash}
-use Rattle.party.specs.Parts.{idle, heldBytes, newborn}
+use Rattle.names.specs.Names.{plain, clashes}
+use Rattle.party.specs.Parts.{idle, heldBytes, builtParty}
 use Rattle.offer.specs.Offer.{isFull}
 use Rattle.party.specs.Driving.{isActive}
 use Rattle.party.specs.Settling.{settled}
@@ -24,7 +24,7 @@ use Rattle.parties.proofs.Places.{some-true, total-zero}
 use Rattle.bus.specs.Types.{Place, Name, Party, Strs, Aids, Acrs, Nothing, Said}
 use Rattle.bus.specs.Record.{here, built}
 use Rattle.addresses.specs.Addresses.{placed, anyOver30, clashesWith, twoClash, badBuild}
-use Rattle.bus.specs.Settling.{settle}
+use Rattle.bus.specs.Settling.{settleBus}
 use Rattle.bus.specs.Delivery.{held}
 use Rattle.bus.proofs.Invariant.{busy, Pre, Inv, atnOf}
 
@@ -39,7 +39,7 @@ placed-still (suc n) zero atn xs = refl
 placed-still (suc n) (suc m) atn [] = rw (newborn-still atn, placed-still n m atn []) refl
 placed-still (suc n) (suc m) atn (a ∷ xs) = rw (newborn-still atn, placed-still n m atn xs) refl
 
-pub built-settled : (xs : List Name) (s : Place) (atn : Bool) (w : Said) → settle atn (built xs s) w (built xs s .parties) Nothing .bus ≡ built xs s
+pub built-settled : (xs : List Name) (s : Place) (atn : Bool) (w : Said) → settleBus atn (built xs s) w (built xs s .parties) Nothing .bus ≡ built xs s
 built-settled xs s atn w = rw (placed-still _ 15 _ xs) refl
 
 -- the places
@@ -48,7 +48,7 @@ placed-length zero xs = refl
 placed-length (suc n) [] = ap suc (placed-length n [])
 placed-length (suc n) (a ∷ xs) = ap suc (placed-length n xs)
 
-pub placed-at : (n : ℕ) (xs : List Name) (j : ℕ) → j < length xs → length xs ≤ n → at (placed n xs) j ≡ newborn (getD xs j beyond)
+pub placed-at : (n : ℕ) (xs : List Name) (j : ℕ) → j < length xs → length xs ≤ n → at (placed n xs) j ≡ builtParty (getD xs j beyond)
 placed-at n [] j h l = absurd (not-suc-le-zero h)
 placed-at zero (a ∷ xs) j h l = absurd (not-suc-le-zero l)
 placed-at (suc n) (a ∷ xs) zero h l = refl
@@ -69,12 +69,12 @@ or-false false y e = (refl, e)
 none-of : (a b c d e : Bool) → (a || b || c || d || e) ≡ false → (b ≡ false) × (d ≡ false)
 none-of a b c d e h = let x = or-false (a || b || c) d (or-false (a || b || c || d) e h .0) in (or-false a b (or-false (a || b) c (x .0) .0) .1, x .1)
 
-absent : (n : Name) (xs : List Name) → clashesWith n xs ≡ false → (j : ℕ) → j < length xs → clash n (getD xs j beyond) ≡ true → ⊥
+absent : (n : Name) (xs : List Name) → clashesWith n xs ≡ false → (j : ℕ) → j < length xs → clashes n (getD xs j beyond) ≡ true → ⊥
 absent n [] e j h f = not-suc-le-zero h
-absent n (x ∷ xs) e zero h f = let z = or-false (clash n x) (clashesWith n xs) e .0 in no (cc)
-absent n (x ∷ xs) e (suc j) h f = absent n xs (or-false (clash n x) (clashesWith n xs) e .1) j (le-of-suc-le-suc h) f
+absent n (x ∷ xs) e zero h f = let z = or-false (clashes n x) (clashesWith n xs) e .0 in no (cc)
+absent n (x ∷ xs) e (suc j) h f = absent n xs (or-false (clashes n x) (clashesWith n xs) e .1) j (le-of-suc-le-suc h) f
 
-distinct : (xs : List Name) → twoClash xs ≡ false → (i j : ℕ) → i < length xs → j < length xs → clash (getD xs i beyond) (getD xs j beyond) ≡ true → i ≡ j
+distinct : (xs : List Name) → twoClash xs ≡ false → (i j : ℕ) → i < length xs → j < length xs → clashes (getD xs i beyond) (getD xs j beyond) ≡ true → i ≡ j
 distinct [] e i j h k f = absurd (not-suc-le-zero h)
 distinct (x ∷ xs) e zero zero h k f = refl
 distinct (x ∷ xs) e zero (suc j) h k f = absurd (absent x xs (or-false (clashesWith x xs) (twoClash xs) e .0) j (le-of-suc-le-suc k) f)
@@ -91,11 +91,11 @@ module _ (xs : List Name) (s : Place) (ok : badBuild xs s ≡ false) where
   fits = ltb-false 15 (length xs) (neither .0)
 
   -- every place holds a party just built
-  new : (j : ℕ) → (n : Name) × (here (built xs s) j ≡ newborn n)
+  new : (j : ℕ) → (n : Name) × (here (built xs s) j ≡ builtParty n)
   new j = test (ltb j (length xs)) (λ h. (getD xs j beyond, placed-at 15 xs j (ltb-true j (length xs) h) fits)) (λ h. (beyond, placed-past 15 xs j (ltb-false j (length xs) h)))
 
   -- what holds of every party just built holds of every party
-  all-new : (R : Party → Type 0) → ((n : Name) → R (newborn n)) → (j : ℕ) → R (here (built xs s) j)
+  all-new : (R : Party → Type 0) → ((n : Name) → R (builtParty n)) → (j : ℕ) → R (here (built xs s) j)
   all-new R r j = let n = new j in rw (n .1) (r (n .0))
 
   nobody : atnOf (built xs s) ≡ false
@@ -106,7 +106,7 @@ module _ (xs : List Name) (s : Place) (ok : badBuild xs s ≡ false) where
     tail = λ j h. placed-past 15 xs j h;
     atnIf = all-new (λ p. isActive p ≡ true → atnOf (built xs s) ≡ true) (λ a h. no (cc));
     charge = λ i j. all-new (λ p. busy (p .control) ≡ true → busy (here (built xs s) j .control) ≡ true → i ≡ j) (λ a h. no (cc)) i;
-    addr = λ i j h k e. distinct xs (neither .1) i j h k (sym (ap (λ (p : Party). clash (p .role .name) (getD xs j beyond)) (placed-at 15 xs i h fits)) ∙ sym (ap (λ (p : Party). clash (here (built xs s) i .role .name) (p .role .name)) (placed-at 15 xs j k fits)) ∙ e);
+    addr = λ i j h k e. distinct xs (neither .1) i j h k (sym (ap (λ (p : Party). clashes (p .role .name) (getD xs j beyond)) (placed-at 15 xs i h fits)) ∙ sym (ap (λ (p : Party). clashes (here (built xs s) i .role .name) (p .role .name)) (placed-at 15 xs j k fits)) ∙ e);
     sends = λ j. all-new (λ p. p .source ≡ Strs → false ≡ true) (λ a h. no (cc)) j;
     sent = λ j h. no (cc);
     kind = λ h. no (cc);

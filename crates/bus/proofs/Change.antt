@@ -10,7 +10,7 @@ use Rattle.party.specs.Parts.{idle}
 use Rattle.offer.specs.Offer.{isFull}
 use Rattle.party.specs.Driving.{isActive}
 use Rattle.party.specs.Sending.{isSource, isPolled}
-use Rattle.names.specs.Names.{clash}
+use Rattle.names.specs.Names.{clashes}
 use Rattle.role.proofs.Roles.{nameOf, Single, Apart, Addressed, Weak, weak-same, weaken}
 use Rattle.parties.proofs.Places.{upd}
 use Rattle.bus.specs.Types.{Name, Party, Strs, Aids, Anrs, Acrs, Role, Standing}
@@ -35,7 +35,7 @@ upd-unique v i q f u h = upd-all v i q (λ a x. (b : ℕ) → f x ≡ true → f
     (λ a ne. upd-all v i q (λ b y. f (v a) ≡ true → f y ≡ true → a ≡ b) (λ e k. absurd (h k a e ne)) (λ b me e k. u a b e k))
 
 pub same-apart : (n : ℕ) (v u : ℕ → Role) → ((j : ℕ) → nameOf (u j) ≡ nameOf (v j)) → Apart n v → Apart n u
-same-apart n v u h D i j li lj e = D i j li lj (sym (ap (λ (x : Name). clash (nameOf (v i)) x) (h j)) ∙ sym (ap (λ (x : Name). clash x (nameOf (u j))) (h i)) ∙ e)
+same-apart n v u h D i j li lj e = D i j li lj (sym (ap (λ (x : Name). clashes (nameOf (v i)) x) (h j)) ∙ sym (ap (λ (x : Name). clashes x (nameOf (u j))) (h i)) ∙ e)
 
 pub upd-apart : (n : ℕ) (v : ℕ → Party) (i : ℕ) (q : Party) → nameOf (q .role) ≡ nameOf (v i .role) → Apart n (λ j. v j .role) → Apart n (λ j. upd v i q j .role)
 upd-apart n v i q e = same-apart n (λ j. v j .role) (λ j. upd v i q j .role) (upd-all v i q (λ j x. nameOf (x .role) ≡ nameOf (v j .role)) e (λ j ne. refl))

@@ -29,9 +29,9 @@ use Rattle.effect.specs.Words.{isAccepted}
 use Rattle.bus.specs.Record.{here, lines}
 use Rattle.effect.specs.Stands.{sendsCommand}
 use Rattle.effect.specs.Effects.{say, does, stay, quiet, withStanding}
-use Rattle.bus.specs.Settling.{settle, settleAs, deserted}
+use Rattle.bus.specs.Settling.{settleBus, settleBusAs, deserted}
 use Rattle.host_calls.specs.HostCalls.{controlled, resetAcceptor, tell}
-use Rattle.bus.specs.Following.{alarm, touch, follow}
+use Rattle.bus.specs.Following.{attention, settle, follow}
 use Rattle.refusals.specs.Refusals.{inStandby, standbyRefusal}
 use Rattle.bus.specs.Machine.{viewAt, refusal, accepted}
 use Rattle.bus.specs.Delivery.{deed, neither, isPut, isHostPut, isTake, isEnd, isWrite, wrote, held}
@@ -98,7 +98,7 @@ module _ (b : Bus) (I : Inv b) (p : Place) where
 
   -- who is in charge comes to control c: attention follows
   controlled-good : (c : Call) (x : Control) → wrote c ruling.Accepted ≡ 0 → p .0 < b .count → busy (here b (p .0) .control) ≡ true → sendsCommand (p .0) (b .standing) ≡ false
-      → Good b c (alarm b (p .0) (withStanding (b .standing) (controlled x (viewAt p (lines b) b))))
+      → Good b c (attention b (p .0) (withStanding (b .standing) (controlled x (viewAt p (lines b) b))))
   controlled-good c x w l h f = alarm-good b c I (heldBytes (here b (p .0))) (set (b .parties) (p .0) new) (set-len b I (p .0) new)
       (raw-set b I (p .0) l new (quietly h f) refl (λ _. h) (λ y. y) (I .pre .apart (p .0)))
       (let k = set-held b I (p .0) l new in rw w (omega arith))
@@ -119,7 +119,7 @@ module _ (b : Bus) (I : Inv b) (p : Place) where
 
   -- reset of a party that is not active
   reset-off : p .0 < b .count → isActive (here b (p .0)) ≡ false
-      → Good b (call-of.Of p act-of.Reset) (touch (atnOf b) b (p .0) (withStanding (b .standing) (quiet (heldBytes (here b (p .0))) (withAcceptor (resetAcceptor (lines b)) (wiped (here b (p .0)))))))
+      → Good b (call-of.Of p act-of.Reset) (settle (atnOf b) b (p .0) (withStanding (b .standing) (quiet (heldBytes (here b (p .0))) (withAcceptor (resetAcceptor (lines b)) (wiped (here b (p .0)))))))
   reset-off l na = kept-good b (call-of.Of p act-of.Reset) I (p .0) l (say ev.None 0 false (heldBytes (here b (p .0)))) new
       (record {
         name = refl;
@@ -244,8 +244,8 @@ clear-good b I p ok = let r = known b p (cond (eqb (p .0) (b .system .0)) ruling
     (clear-raw b I (p .0) (r .0)) (clear-held b I (p .0) (r .0))
 
 -- A call that says what it finds: it changes no party and nothing that stands, and settling follows.
-report-good : (b : Bus) → Inv b → (c : Call) (s : Said) → deed (s .event) ≡ neither → s .dropped ≡ 0 → isWrite c ≡ false → Good b c (touch (atnOf b) b 0 (does s (here b 0) (b .standing)))
-report-good b I c s d k w = subst (λ (ps : List Party). Good b c (settle (atnOf b) b s ps (b .standing))) (sym (set-getD (b .parties) 0 idle)) (record {
+report-good : (b : Bus) → Inv b → (c : Call) (s : Said) → deed (s .event) ≡ neither → s .dropped ≡ 0 → isWrite c ≡ false → Good b c (settle (atnOf b) b 0 (does s (here b 0) (b .standing)))
+report-good b I c s d k w = subst (λ (ps : List Party). Good b c (settleBus (atnOf b) b s ps (b .standing))) (sym (set-getD (b .parties) 0 idle)) (record {
   inv = settle-inv b (atnOf b) s (b .parties) (b .standing) (I .size) (I .small) refl (I .pre);
   shape = shape (deserted t (b .parties) (b .standing)) refl;
   bytes = rw (w, host, k, total-each (b .count) heldBytes (settled t) (b .parties) (λ p. refl)) refl;
@@ -275,13 +275,13 @@ report-good b I c s d k w = subst (λ (ps : List Party). Good b c (settle (atnOf
     acc : (j : ℕ) → at (each (b .count) (settled t) (b .parties)) j .acceptor ≡ here b j .acceptor
     acc j = ap (λ (p : Party). p .acceptor) (seen-settled b t (b .parties) (I .size) (I .small) (I .pre .tail) j)
 
-    shape : (x : Bool) → deserted t (b .parties) (b .standing) ≡ x → Shape (b .standing) c (settleAs t x b s (b .parties) (b .standing))
+    shape : (x : Bool) → deserted t (b .parties) (b .standing) ≡ x → Shape (b .standing) c (settleBusAs t x b s (b .parties) (b .standing))
     shape false e = keeps put end refl refl
     shape true e = breaks put end refl (deserted-stands t (b .parties) (b .standing) e) refl
 
 -- lines and drivers
-pub lines-good : (b : Bus) → Inv b → Good b call-of.Lines (touch (atnOf b) b 0 (withStanding (b .standing) (tell (viewAt (place 0) (lines b) b))))
+pub lines-good : (b : Bus) → Inv b → Good b call-of.Lines (settle (atnOf b) b 0 (withStanding (b .standing) (tell (viewAt (place 0) (lines b) b))))
 lines-good b I = report-good b I call-of.Lines (say ev.Lines (linesByte (lines b)) false 0) refl refl refl
 
-pub drivers-good : (b : Bus) → Inv b → Good b call-of.Drivers (touch (atnOf b) b 0 (stay (viewAt (place 0) (lines b) b)))
+pub drivers-good : (b : Bus) → Inv b → Good b call-of.Drivers (settle (atnOf b) b 0 (stay (viewAt (place 0) (lines b) b)))
 drivers-good b I = report-good b I call-of.Drivers (say ev.None 0 false 0) refl refl refl

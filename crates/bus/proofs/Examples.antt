@@ -1,19 +1,19 @@
 -- P1 to P12 hold, and so do the examples of secondary addresses and of who drives the lines: the machine computes them.
 -- Assumes nothing.
 use mathlib.Core.Path.{refl}
-use Rattle.message.specs.Meaning.{meaning, sevenBits, named}
+use Rattle.message.specs.Meaning.{meaningOf, sevenBits, named}
 use Rattle.bus.specs.Examples.{Examples}
 use Rattle.bus.specs.Secondaries.{SecondaryExamples}
 use Rattle.bus.specs.Held.{DriverExamples}
 
 pub examples : Examples
-unfolding meaning sevenBits named
+unfolding meaningOf sevenBits named
 examples = refl
 
 pub secondary-examples : SecondaryExamples
-unfolding meaning sevenBits named
+unfolding meaningOf sevenBits named
 secondary-examples = refl
 
 pub driver-examples : DriverExamples
-unfolding meaning sevenBits named
+unfolding meaningOf sevenBits named
 driver-examples = refl

@@ -16,7 +16,7 @@ use Rattle.effect.specs.Words.{isAccepted}
 use Rattle.bus.specs.Record.{here, lines}
 use Rattle.effect.specs.Effects.{say, does, withStanding}
 use Rattle.host_calls.specs.HostCalls.{readOut, pollRegister, secondRequest, dropHeld}
-use Rattle.bus.specs.Following.{touch, follow}
+use Rattle.bus.specs.Following.{settle, follow}
 use Rattle.refusals.specs.Refusals.{ofSwitch}
 use Rattle.effect.specs.Calls.{isOn}
 use Rattle.bus.specs.Machine.{viewAt, refusal, accepted}
@@ -40,7 +40,7 @@ module _ (b : Bus) (I : Inv b) (p : Place) where
   pub read-good : isAccepted (refusal (lines b) b (call-of.Of p act-of.Read)) ≡ true → Good b (call-of.Of p act-of.Read) (accepted (lines b) b (call-of.Of p act-of.Read))
   read-good ok = let r = known b p (cond (isFull (here b (p .0) .input)) ruling.Accepted ruling.Empty) ok in go (r .0) (here b (p .0) .input)
     where
-      taken : (x : ℕ) (y : Bool) → p .0 < b .count → Good b (call-of.Of p act-of.Read) (touch (atnOf b) b (p .0) (does (say ev.Read x y 0) (withInput Empty (here b (p .0))) (b .standing)))
+      taken : (x : ℕ) (y : Bool) → p .0 < b .count → Good b (call-of.Of p act-of.Read) (settle (atnOf b) b (p .0) (does (say ev.Read x y 0) (withInput Empty (here b (p .0))) (b .standing)))
       taken x y l = plain-good b (call-of.Of p act-of.Read) I (p .0) l (say ev.Read x y 0) (withInput Empty (here b (p .0)))
           (plainly (here b (p .0)) (withInput Empty (here b (p .0))) refl refl refl refl (λ x. refl)) (λ j x. no (cc)) refl refl refl refl
 

@@ -8,13 +8,13 @@ use native.Mathlib.Omega.{arith}
 use lib.ListN.{length}
 use lib.Dec.{eqb}
 use borrow.Author.Tests.{eqb-true, eq-eqb}
-use Rattle.message.specs.Meaning.{address, meaning}
+use Rattle.message.specs.Meaning.{address, meaningOf}
 use Rattle.names.specs.Names.{plain}
 use Rattle.message.specs.declared.Meaning.the-variants.{Other}
 use Rattle.party.specs.Parts.{idle}
 use Rattle.offer.specs.Offer.{isFull}
 use Rattle.party.specs.Driving.{isActive}
-use Rattle.role.specs.Hearing.{hear}
+use Rattle.role.specs.Hearing.{roleHeard}
 use Rattle.party.specs.Sending.{isSource, isPolled}
 use Rattle.party.specs.Settling.{settled}
 use Rattle.role.proofs.Logic.{no}
@@ -25,7 +25,7 @@ use Rattle.parties.proofs.Places.{at-each-all, some-each, length-each}
 use Rattle.bus.specs.Types.{Party, Control, Idle, Standby, Active, Sids, Strs, Acceptor, Aids, Anrs, Acrs, Acds, Awns, Kind, Command, Data, Status, Meaning, Role, Standing, Nothing, Byte, Bus, Said}
 use Rattle.bus.specs.Record.{here}
 use Rattle.effect.specs.Stands.{stands, hasEnd, ofCommand}
-use Rattle.bus.specs.Settling.{deserted, settle}
+use Rattle.bus.specs.Settling.{deserted, settleBus}
 
 -- in charge of the bus, now or once it takes control again
 abbrev pub busy : Control → Bool
@@ -65,7 +65,7 @@ isCommand st = standsOf ofCommand st
 
 abbrev pub codeOf : Standing → Meaning
 codeOf Nothing = Other
-codeOf (Byte s k v e) = meaning v
+codeOf (Byte s k v e) = meaningOf v
 
 abbrev pub inAcrs : Acceptor → Bool
 inAcrs Aids = false
@@ -81,13 +81,13 @@ is-acrs Acrs e = refl
 is-acrs Acds e = no (cc)
 is-acrs Awns e = no (cc)
 
--- party j has yet to hear what stands
+-- party j has yet to roleHeard what stands
 abbrev pub waits : Standing → ℕ → Acceptor → Bool
 waits st j x = isCommand st && (sentBy j st || inAcrs x)
 
 -- the role that party j will have once it has heard what stands
 abbrev pub look : Standing → ℕ → Party → Role
-look st j p = cond (waits st j (p .acceptor)) (hear (codeOf st) (p .role)) (p .role)
+look st j p = cond (waits st j (p .acceptor)) (roleHeard (codeOf st) (p .role)) (p .role)
 
 -- What each call keeps, before settling: n parties, seen place by place as v; atn is the line; st is what stands.
 pub record Pre (n : ℕ) (atn : Bool) (v : ℕ → Party) (st : Standing) : Type 0 where
@@ -232,7 +232,7 @@ not-true true e = no (cc)
 not-true false e = refl
 
 -- settling makes the invariant of what a call keeps
-pub settle-inv : (b : Bus) (t : Bool) (s : Said) (ps : List Party) (st : Standing) → length ps ≡ 15 → b .count ≤ 15 → some (b .count) isActive ps ≡ t → Pre (b .count) t (at ps) st → Inv (settle t b s ps st .bus)
+pub settle-inv : (b : Bus) (t : Bool) (s : Said) (ps : List Party) (st : Standing) → length ps ≡ 15 → b .count ≤ 15 → some (b .count) isActive ps ≡ t → Pre (b .count) t (at ps) st → Inv (settleBus t b s ps st .bus)
 settle-inv b t s ps st z l a P = record {
   size = length-each (b .count) (settled t) ps ∙ z;
   small = l;

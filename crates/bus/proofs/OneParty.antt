@@ -20,7 +20,7 @@ use Rattle.effect.specs.Words.{isAccepted}
 use Rattle.bus.specs.Record.{here, lines}
 use Rattle.effect.specs.Stands.{stands}
 use Rattle.effect.specs.Effects.{say, does, stay}
-use Rattle.bus.specs.Following.{touch}
+use Rattle.bus.specs.Following.{settle}
 use Rattle.bus.specs.Machine.{viewAt, judged}
 use Rattle.bus.specs.Delivery.{isPut, isEnd, isTake, isHostPut, isWrite, wrote}
 use Rattle.bus.proofs.Invariant.{look, Inv, atnOf}
@@ -86,7 +86,7 @@ module _ (b : Bus) (c : Call) (I : Inv b) (i : ℕ) (l : i < b .count) where
   pub plain-good : (s : Said) (q : Party) → Plain (here b i) q → Caller c i
       → isPut (s .event) ≡ false → isEnd (s .event) ≡ false → isTake (s .event) ≡ false
       → wrote c ruling.Accepted + heldBytes (here b i) ≡ one (isHostPut (s .event)) + s .dropped + heldBytes q
-      → Good b c (touch (atnOf b) b i (does s q (b .standing)))
+      → Good b c (settle (atnOf b) b i (does s q (b .standing)))
   plain-good s q H k ip ie it w = kept-good b c I i l s q (plain-kept q H)
       (weak-look (here b) (b .standing) i q (weak-same (look (b .standing) i (here b i)) (look (b .standing) i q) (rw (H .role, H .acceptor))) (I .pre .heard))
       (record {
@@ -100,7 +100,7 @@ module _ (b : Bus) (c : Call) (I : Inv b) (i : ℕ) (l : i < b .count) where
         leaves = λ h e. inl (H .acceptor ∙ e);
       })
 
-  pub seated-good : (s : Said) (q : Party) → Seated b i q → Word b c i s q → Good b c (touch (atnOf b) b i (does s q (b .standing)))
+  pub seated-good : (s : Said) (q : Party) → Seated b i q → Word b c i s q → Good b c (settle (atnOf b) b i (does s q (b .standing)))
   seated-good s q S W = kept-good b c I i l s q
       (record {
         name = S .name;
@@ -131,5 +131,5 @@ module _ (b : Bus) (I : Inv b) (p : Place) (l : p .0 < b .count) where
   pub step-caller : Caller (call-of.Of p act-of.Step) (p .0)
   step-caller j e = cc
 
-  pub stay-good : Good b (call-of.Of p act-of.Step) (touch (atnOf b) b (p .0) (stay (viewAt p (lines b) b)))
+  pub stay-good : Good b (call-of.Of p act-of.Step) (settle (atnOf b) b (p .0) (stay (viewAt p (lines b) b)))
   stay-good = plain-good b (call-of.Of p act-of.Step) I (p .0) l (say ev.None 0 false 0) (here b (p .0)) (plain-same (here b (p .0))) step-caller refl refl refl refl

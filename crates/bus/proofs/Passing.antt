@@ -8,7 +8,7 @@ use lib.ListN.{length, set, length-set}
 use lib.Dec.{ltb}
 use lib.Seq.{getD-set-other}
 use borrow.Author.Tests.{eq-eqb, ltb-true, ltb-false}
-use Rattle.message.specs.Meaning.{meaning}
+use Rattle.message.specs.Meaning.{meaningOf}
 use Rattle.party.specs.Parts.{idle, heldBytes, withSource}
 use Rattle.party.specs.Driving.{isActive}
 use Rattle.role.specs.Hearing.{passesControl}
@@ -23,7 +23,7 @@ use Rattle.bus.specs.Types.call-of
 use Rattle.bus.specs.Types.act-of
 use Rattle.bus.specs.Record.{here, lines}
 use Rattle.effect.specs.Effects.{say}
-use Rattle.party.specs.Hearing.{heardBy}
+use Rattle.party.specs.Hearing.{partyHeard}
 use Rattle.bus.specs.Following.{pass}
 use Rattle.bus.specs.Delivery.{held}
 use Rattle.bus.proofs.Invariant.{busy, active-busy, waits, look, Inv}
@@ -32,12 +32,12 @@ use Rattle.bus.proofs.Attention.{Raw}
 use Rattle.bus.proofs.Summary.{Good, inside, set-held, pass-good}
 use Rattle.bus.proofs.ControlCalls.{set-len}
 
-module _ (b : Bus) (I : Inv b) (p : Place) (l : p .0 < b .count) (v : ℕ) (e : Bool) (es : b .standing ≡ Byte p Command v e) (nd : lines b .ndac ≡ false) (em : passesControl (meaning v) ≡ true) where
+module _ (b : Bus) (I : Inv b) (p : Place) (l : p .0 < b .count) (v : ℕ) (e : Bool) (es : b .standing ≡ Byte p Command v e) (nd : lines b .ndac ≡ false) (em : passesControl (meaningOf v) ≡ true) where
   heard : Party
-  heard = withSource Sgns (heardBy v (here b (p .0)))
+  heard = withSource Sgns (partyHeard v (here b (p .0)))
 
   old : Party
-  old = changeControl Idle (withSource Sgns (heardBy v (here b (p .0))))
+  old = changeControl Idle (withSource Sgns (partyHeard v (here b (p .0))))
 
   boss : isActive (here b (p .0)) ≡ true
   boss = I .pre .leads (rw es) (p .0) (rw es (eq-eqb (p .0) (p .0) refl))
@@ -47,7 +47,7 @@ module _ (b : Bus) (I : Inv b) (p : Place) (l : p .0 < b .count) (v : ℕ) (e : 
   one-talks x y f g = I .pre .heard .one x y (seen x ∙ f) (seen y ∙ g)
     where
       seen : (k : ℕ) → look (b .standing) k (here b k) .talk ≡ here b k .role .talk
-      seen k = cond-elim (λ (r : Role). r .talk ≡ here b k .role .talk) (waits (b .standing) k (here b k .acceptor)) (λ _. rw es (hear-passes (meaning v) (here b k .role) em)) (λ _. refl)
+      seen k = cond-elim (λ (r : Role). r .talk ≡ here b k .role .talk) (waits (b .standing) k (here b k .acceptor)) (λ _. rw es (hear-passes (meaningOf v) (here b k .role) em)) (λ _. refl)
 
   -- once the sender is idle nobody is in charge
   nobody : (k : ℕ) → busy (upd (here b) (p .0) old k .control) ≡ true → ⊥
@@ -83,16 +83,16 @@ module _ (b : Bus) (I : Inv b) (p : Place) (l : p .0 < b .count) (v : ℕ) (e : 
     raw = record {
       tail = each-of (λ k x. b .count ≤ k → x ≡ idle) (λ h. absurd (past within h)) (λ h. absurd (past l h)) (λ k. I .pre .tail k);
       charge = upd-unique (upd (here b) (p .0) old) j new (λ x. busy (x .control)) (λ x y f. absurd (nobody x f)) (λ h k f nk. nobody k f);
-      addr = same-apart (b .count) (λ k. here b k .role) (λ k. upd (upd (here b) (p .0) old) j new k .role) (each-of (λ k x. nameOf (x .role) ≡ nameOf (here b k .role)) refl (hear-name (meaning v) (here b (p .0) .role)) (λ k. refl)) (I .pre .addr);
+      addr = same-apart (b .count) (λ k. here b k .role) (λ k. upd (upd (here b) (p .0) old) j new k .role) (each-of (λ k x. nameOf (x .role) ≡ nameOf (here b k .role)) refl (hear-name (meaningOf v) (here b (p .0) .role)) (λ k. refl)) (I .pre .addr);
       talk = λ x y f g. one-talks x y (sym (talks x) ∙ f) (sym (talks y) ∙ g);
-      apart = each-of (λ k x. Single (x .role)) (I .pre .apart j) (hear-single (meaning v) (here b (p .0) .role) (I .pre .apart (p .0))) (I .pre .apart);
+      apart = each-of (λ k x. Single (x .role)) (I .pre .apart j) (hear-single (meaningOf v) (here b (p .0) .role) (I .pre .apart (p .0))) (I .pre .apart);
     }
       where
         past : {k : ℕ} → k < b .count → b .count ≤ k → ⊥
         past m h = omega arith
 
         talks : (k : ℕ) → upd (upd (here b) (p .0) old) j new k .role .talk ≡ here b k .role .talk
-        talks = each-of (λ k x. x .role .talk ≡ here b k .role .talk) refl (hear-passes (meaning v) (here b (p .0) .role) em) (λ k. refl)
+        talks = each-of (λ k x. x .role .talk ≡ here b k .role .talk) refl (hear-passes (meaningOf v) (here b (p .0) .role) em) (λ k. refl)
 
     dropped : held b ≡ heldBytes (here b (p .0)) + heldBytes (here b j) + total (b .count) heldBytes (set (set (b .parties) (p .0) old) j new)
     unfolding old new
@@ -108,7 +108,7 @@ module _ (b : Bus) (I : Inv b) (p : Place) (l : p .0 < b .count) (v : ℕ) (e : 
         es nd dropped
 
   pub pass-to : (z : After) (j : Place) → otherTalker (b .count) (p .0) (b .parties) ≡ At j
-      → Good b (call-of.Of p act-of.Step) (pass b (p .0) (record { said = say ev.Ended v e 0; after = z; party = withSource Sgns (heardBy v (here b (p .0))); standing = Nothing }) (j .0))
+      → Good b (call-of.Of p act-of.Step) (pass b (p .0) (record { said = say ev.Ended v e 0; after = z; party = withSource Sgns (partyHeard v (here b (p .0))); standing = Nothing }) (j .0))
   unfolding heard
   pass-to z j h = let r = first-found 0 (b .count) (λ x. x .role .talk) (set (b .parties) (p .0) idle) j h in
       let k : j .0 ≡ r .0 = omega (arith, r .1 .0) in passed-good (j .0) (rw k (r .1 .1)) z

@@ -10,7 +10,7 @@ use borrow.Author.Tests.{eqb-true, eqb-false, eq-eqb, ltb-true, ltb-false}
 use Rattle.party.specs.Parts.{idle}
 use Rattle.offer.specs.Offer.{isFull}
 use Rattle.party.specs.Driving.{isActive, nrfdAt, drivesNrfd}
-use Rattle.role.specs.Hearing.{hear}
+use Rattle.role.specs.Hearing.{roleHeard}
 use Rattle.party.specs.Sending.{isSource, isPolled}
 use Rattle.role.proofs.Logic.{no, test, cond-elim, or-either}
 use Rattle.role.proofs.Roles.{nameOf, Apart, live, Addressed, hear-name, hear-all, Single, hear-single}
@@ -63,7 +63,7 @@ no-nrfd Acrs e h = refl
 no-nrfd Acds e h = no (cc)
 no-nrfd Awns e h = no (cc)
 
-pub look-on : (st : Standing) (j : ℕ) (p : Party) → waits st j (p .acceptor) ≡ true → look st j p ≡ hear (codeOf st) (p .role)
+pub look-on : (st : Standing) (j : ℕ) (p : Party) → waits st j (p .acceptor) ≡ true → look st j p ≡ roleHeard (codeOf st) (p .role)
 look-on st j p e = rw e
 
 pub look-off : (st : Standing) (j : ℕ) (p : Party) → waits st j (p .acceptor) ≡ false → look st j p ≡ p .role
@@ -155,7 +155,7 @@ put-pre n atn v P i l q k x y er ec eb ei es F nrfd = record {
         far true x e = rw e
         far false x e = refl
 
-    all : isCommand st ≡ true → (j : ℕ) → live (look st j (upd v i q j)) ≡ true → (j < n) × (look st j (upd v i q j) ≡ hear (codeOf st) (roles j))
+    all : isCommand st ≡ true → (j : ℕ) → live (look st j (upd v i q j)) ≡ true → (j < n) × (look st j (upd v i q j) ≡ roleHeard (codeOf st) (roles j))
     all c j h = test (ltb j n) (λ e. (ltb-true j n e, look-on st j (upd v i q j) (waiting c j (ltb-true j n e)))) (λ e. let z = gone j (ltb-false j n e) in no (cc))
 
 -- a byte ends, and a command is heard by its sender

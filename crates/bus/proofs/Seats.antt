@@ -16,7 +16,7 @@ use Rattle.bus.specs.Types.{Place, Party, Standing, Nothing, Byte, Bus, 
 use Rattle.bus.specs.Types.call-of
 use Rattle.effect.specs.Words.{isAccepted}
 use Rattle.bus.specs.Record.{lines}
-use Rattle.effect.specs.Stands.{senderSlot, left}
+use Rattle.effect.specs.Stands.{senderSlot, isLeft}
 use Rattle.bus.specs.Settling.{deserted}
 use Rattle.effect.specs.Calls.{placeOf}
 use Rattle.refusals.specs.Refusals.{ofParty, isInside, judge}
@@ -59,7 +59,7 @@ seat b call-of.Lines = λ _. refl
 seat b call-of.Drivers = λ _. refl
 
 -- the sender of what stands, at its slot
-pub left-seat : (t : Bool) (ps : List Party) (st : Standing) → length ps ≡ 15 → left (isSource t (at ps (senderSlot st))) st ≡ deserted t ps st
+pub left-seat : (t : Bool) (ps : List Party) (st : Standing) → length ps ≡ 15 → isLeft (isSource t (at ps (senderSlot st))) st ≡ deserted t ps st
 left-seat t ps Nothing z = refl
 left-seat t ps (Byte s k v e) z = test (ltb (s .0) 15) (λ h. rw h refl) (λ h. rw (h, gone (ltb-false (s .0) 15 h)) (mute t))
   where

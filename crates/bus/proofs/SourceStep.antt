@@ -6,11 +6,11 @@ use mathlib.Core.Logic.{_⊎_, inl, inr}
 use Prim.Native.Nat.{ℕ, _+_, _<_}
 use native.Mathlib.Omega.{arith}
 use borrow.Author.Tests.{eqb-true}
-use Rattle.message.specs.Meaning.{meaning}
+use Rattle.message.specs.Meaning.{meaningOf}
 use Rattle.offer.specs.Offer.{isFull, kindOf, endOf}
 use Rattle.party.specs.Parts.{one, heldBytes, withSource}
 use Rattle.party.specs.Driving.{isActive, drivesNrfd}
-use Rattle.role.specs.Hearing.{hear, passesControl}
+use Rattle.role.specs.Hearing.{roleHeard, passesControl}
 use Rattle.party.specs.Sending.{isSource, isPolled, offer}
 use Rattle.role.proofs.Logic.{no, cond-elim}
 use Rattle.party.proofs.Settled.{source-case}
@@ -25,8 +25,8 @@ use Rattle.bus.specs.Record.{here, lines}
 use Rattle.effect.specs.Stands.{ofCommand}
 use Rattle.effect.specs.Effects.{say, does, stay, moved}
 use Rattle.source_step.specs.SourceStep.{put, noacc, ready, passTo, ended, sourceIn}
-use Rattle.party.specs.Hearing.{heardBy}
-use Rattle.bus.specs.Following.{touch, follow}
+use Rattle.party.specs.Hearing.{partyHeard}
+use Rattle.bus.specs.Following.{settle, follow}
 use Rattle.bus.specs.Machine.{viewAt}
 use Rattle.bus.specs.Delivery.{isPut, isEnd, isTake, isHostPut}
 use Rattle.bus.proofs.Invariant.{sentBy, look, look-idle, Pre, Inv, atnOf, quiet}
@@ -97,7 +97,7 @@ module _ (b : Bus) (I : Inv b) (p : Place) (l : p .0 < b .count) (so : isSource 
         → new .role ≡ here b (p .0) .role → new .control ≡ here b (p .0) .control → new .acceptor ≡ here b (p .0) .acceptor → new .input ≡ here b (p .0) .input → new .source ≡ Strs
         → Fit (atnOf b) new k y → lines b .nrfd ≡ false
         → heldBytes (here b (p .0)) ≡ one (isHostPut x) + heldBytes new
-        → Good b (call-of.Of p act-of.Step) (touch (atnOf b) b (p .0) (does (say x v y 0) new (Byte p k v y)))
+        → Good b (call-of.Of p act-of.Step) (settle (atnOf b) b (p .0) (does (say x v y 0) new (Byte p k v y)))
     put-with x new k v y ip ie it er ec eb ei es F nr w = put-good b I p l x new k v y ip ie it none (rw ec) eb (rw (ec, er) so) w
         (put-pre (b .count) (atnOf b) (here b) (subst (λ (st : Standing). Pre (b .count) (atnOf b) (here b) st) none (I .pre)) (p .0) l new k v y er ec eb ei es F (some-none (b .count) drivesNrfd (b .parties) refl (I .pre .tail) nr))
       where
@@ -140,28 +140,28 @@ module _ (b : Bus) (I : Inv b) (p : Place) (l : p .0 < b .count) (so : isSource 
 
     over-good : (q : Party) (k : Kind) (v : ℕ) (e : Bool) → b .standing ≡ Byte p k v e → q .role ≡ look (b .standing) (p .0) (here b (p .0)) → q .control ≡ here b (p .0) .control
         → q .acceptor ≡ here b (p .0) .acceptor → q .input ≡ here b (p .0) .input → q .held ≡ here b (p .0) .held → q .source ≡ Sgns
-        → Good b (call-of.Of p act-of.Step) (touch (atnOf b) b (p .0) (does (say ev.Ended v e 0) q Nothing))
+        → Good b (call-of.Of p act-of.Step) (settle (atnOf b) b (p .0) (does (say ev.Ended v e 0) q Nothing))
     over-good q k v e es er ec eb ei eh eo = end-good b I p l q k v e es nd (rw ec) eb eh
         (end-pre (b .count) (atnOf b) (here b) (b .standing) (I .pre) (p .0) l mine q er ec eb ei eo (none-ready b I nd))
 
     -- data and status bytes
-    plain-end : (k : Kind) (v : ℕ) (e : Bool) → ofCommand k ≡ false → b .standing ≡ Byte p k v e → Good b (call-of.Of p act-of.Step) (touch (atnOf b) b (p .0) (does (say ev.Ended v e 0) (withSource Sgns (here b (p .0))) Nothing))
+    plain-end : (k : Kind) (v : ℕ) (e : Bool) → ofCommand k ≡ false → b .standing ≡ Byte p k v e → Good b (call-of.Of p act-of.Step) (settle (atnOf b) b (p .0) (does (say ev.Ended v e 0) (withSource Sgns (here b (p .0))) Nothing))
     plain-end k v e n es = over-good (withSource Sgns (here b (p .0))) k v e es (sym (look-idle (b .standing) (rw es n) (p .0) (here b (p .0)))) refl refl refl refl refl
 
     command-end : (v : ℕ) (e : Bool) → b .standing ≡ Byte p Command v e → G (ended (Byte p Command v e) seen)
     unfolding G talker
-    command-end v e es = go talker refl (passesControl (meaning v)) refl
+    command-end v e es = go talker refl (passesControl (meaningOf v)) refl
       where
         heard : Party
-        heard = withSource Sgns (heardBy v (here b (p .0)))
+        heard = withSource Sgns (partyHeard v (here b (p .0)))
 
-        own : look (b .standing) (p .0) (here b (p .0)) ≡ hear (meaning v) (here b (p .0) .role)
+        own : look (b .standing) (p .0) (here b (p .0)) ≡ roleHeard (meaningOf v) (here b (p .0) .role)
         own = look-on (b .standing) (p .0) (here b (p .0)) (rw (mine, es)) ∙ rw es refl
 
-        just : (z : After) → Good b (call-of.Of p act-of.Step) (touch (atnOf b) b (p .0) (record { said = say ev.Ended v e 0; after = z; party = heard; standing = Nothing }))
+        just : (z : After) → Good b (call-of.Of p act-of.Step) (settle (atnOf b) b (p .0) (record { said = say ev.Ended v e 0; after = z; party = heard; standing = Nothing }))
         just z = over-good heard Command v e es (sym own) refl refl refl refl refl
 
-        go : (x : Found) → talker ≡ x → (z : Bool) → passesControl (meaning v) ≡ z → G (record { said = say ev.Ended v e 0; after = passTo z x; party = heard; standing = Nothing })
+        go : (x : Found) → talker ≡ x → (z : Bool) → passesControl (meaningOf v) ≡ z → G (record { said = say ev.Ended v e 0; after = passTo z x; party = heard; standing = Nothing })
         go Nowhere h z ez = just after.Settle
         go (At j) h false ez = just after.Settle
         go (At j) h true ez = pass-to b I p l v e es nd ez (after.Pass j) j h

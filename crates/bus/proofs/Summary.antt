@@ -26,8 +26,8 @@ use Rattle.bus.specs.Types.act-of
 use Rattle.bus.specs.Record.{here, refuse}
 use Rattle.effect.specs.Stands.{stands}
 use Rattle.effect.specs.Effects.{say, does}
-use Rattle.bus.specs.Settling.{settleAs, attend, deserted}
-use Rattle.bus.specs.Following.{touch}
+use Rattle.bus.specs.Settling.{settleBusAs, attend, deserted}
+use Rattle.bus.specs.Following.{settle}
 use Rattle.bus.specs.Delivery.{isPut, isEnd, isTake, isHostPut, wrote, held}
 use Rattle.bus.proofs.Invariant.{look, Pre, Inv, atnOf, settled-idle, settle-inv}
 use Rattle.bus.proofs.Change.{keep-pre, Kept, upd-all}
@@ -123,7 +123,7 @@ module _ (b : Bus) (I : Inv b) (i : ℕ) (l : i < b .count) (q : Party) where
   pub changed-held : (t : Bool) → total (b .count) heldBytes (each (b .count) (settled t) (set (b .parties) i q)) + heldBytes (here b i) ≡ held b + heldBytes q
   changed-held t = rw (total-each (b .count) heldBytes (settled t) (set (b .parties) i q) (λ p. refl)) set-held
 
-  pub touch-inv : (s : Said) (st : Standing) → isActive q ≡ isActive (here b i) → Pre (b .count) (atnOf b) (upd (here b) i q) st → Inv (touch (atnOf b) b i (does s q st) .bus)
+  pub touch-inv : (s : Said) (st : Standing) → isActive q ≡ isActive (here b i) → Pre (b .count) (atnOf b) (upd (here b) i q) st → Inv (settle (atnOf b) b i (does s q st) .bus)
   touch-inv s st e P = settle-inv b (atnOf b) s (set (b .parties) i q) st (length-set (b .parties) i q ∙ I .size) (I .small) (some-set (b .count) isActive (b .parties) i q e)
       (subst (λ (w : ℕ → Party). Pre (b .count) (atnOf b) w st) (sym (at-set (b .parties) i q inside)) P)
 
@@ -147,7 +147,7 @@ deserted-stands t ps (Byte s k v x) e = refl
 
 pub kept-good : (b : Bus) (c : Call) → Inv b → (i : ℕ) → i < b .count → (s : Said) (q : Party) → Kept (atnOf b) (b .standing) (here b i) q
     → Addressed (atnOf b) (λ j. look (b .standing) j (upd (here b) i q j))
-    → Word b c i s q → Good b c (touch (atnOf b) b i (does s q (b .standing)))
+    → Word b c i s q → Good b c (settle (atnOf b) b i (does s q (b .standing)))
 kept-good b c I i l s q K o W = record {
   inv = touch-inv b I i l q s (b .standing) (K .act) (keep-pre (b .count) (atnOf b) (here b) (b .standing) (I .pre) i l q K o);
   shape = shape (deserted t qs (b .standing)) refl;
@@ -167,12 +167,12 @@ kept-good b c I i l s q K o W = record {
     t = atnOf b
 
     a : Answer
-    a = touch (atnOf b) b i (does s q (b .standing))
+    a = settle (atnOf b) b i (does s q (b .standing))
 
     acc : (j : ℕ) → here (a .bus) j .acceptor ≡ upd (here b) i q j .acceptor
     acc = changed-acc b I i l q t
 
-    shape : (x : Bool) → deserted t qs (b .standing) ≡ x → Shape (b .standing) c (settleAs t x b s qs (b .standing))
+    shape : (x : Bool) → deserted t qs (b .standing) ≡ x → Shape (b .standing) c (settleBusAs t x b s qs (b .standing))
     shape false e = keeps (W .notPut) (W .notEnd) refl refl
     shape true e = breaks (W .notPut) (W .notEnd) refl (deserted-stands t qs (b .standing) e) refl
 
@@ -213,10 +213,10 @@ pub put-good : (b : Bus) → Inv b → (p : Place) → p .0 < b .count → (x : 
     → isActive q ≡ isActive (here b (p .0)) → q .acceptor ≡ here b (p .0) .acceptor → isSource (atnOf b) q ≡ true
     → heldBytes (here b (p .0)) ≡ one (isHostPut x) + heldBytes q
     → Pre (b .count) (atnOf b) (upd (here b) (p .0) q) (Byte p k v e)
-    → Good b (call-of.Of p act-of.Step) (touch (atnOf b) b (p .0) (does (say x v e 0) q (Byte p k v e)))
+    → Good b (call-of.Of p act-of.Step) (settle (atnOf b) b (p .0) (does (say x v e 0) q (Byte p k v e)))
 put-good b I p l x q k v e ip ie it st ac eq so w P = record {
   inv = touch-inv b I (p .0) l q (say x v e 0) (Byte p k v e) ac P;
-  shape = subst (λ (y : Bool). Shape (b .standing) (call-of.Of p act-of.Step) (settleAs t (not y) b (say x v e 0) qs (Byte p k v e))) (sym ok) (puts ip ie refl st p k refl refl);
+  shape = subst (λ (y : Bool). Shape (b .standing) (call-of.Of p act-of.Step) (settleBusAs t (not y) b (say x v e 0) qs (Byte p k v e))) (sym ok) (puts ip ie refl st p k refl refl);
   bytes = let h = changed-held b I (p .0) l q t in omega arith;
   takes = λ h. no (cc);
   silent = λ j f g. let z = acc j in no (cc);
@@ -250,7 +250,7 @@ pub end-good : (b : Bus) → Inv b → (p : Place) → p .0 < b .count → (q : 
     → b .standing ≡ Byte p k v e → some (b .count) drivesNdac (b .parties) ≡ false
     → isActive q ≡ isActive (here b (p .0)) → q .acceptor ≡ here b (p .0) .acceptor → q .held ≡ here b (p .0) .held
     → Pre (b .count) (atnOf b) (upd (here b) (p .0) q) Nothing
-    → Good b (call-of.Of p act-of.Step) (touch (atnOf b) b (p .0) (does (say ev.Ended v e 0) q Nothing))
+    → Good b (call-of.Of p act-of.Step) (settle (atnOf b) b (p .0) (does (say ev.Ended v e 0) q Nothing))
 end-good b I p l q k v e st nd ac eq eh P = record {
   inv = touch-inv b I (p .0) l q (say ev.Ended v e 0) Nothing ac P;
   shape = ends refl refl refl p k refl st refl;

@@ -26,7 +26,7 @@ use Rattle.effect.specs.Words.{isAccepted}
 use Rattle.bus.specs.Record.{here, lines}
 use Rattle.effect.specs.Stands.{stands}
 use Rattle.effect.specs.Effects.{say, does}
-use Rattle.bus.specs.Following.{touch}
+use Rattle.bus.specs.Following.{settle}
 use Rattle.host_calls.specs.HostCalls.{joining}
 use Rattle.refusals.specs.Refusals.{ofSwitch, listenRefusal, talkRefusal}
 use Rattle.effect.specs.Calls.{isOn}
@@ -86,7 +86,7 @@ module _ (b : Bus) (I : Inv b) (p : Place) where
     -- listen switched, the acceptor as it was: under ATN, or where listen was on already
     listen-flag : (on : ℕ) → (isOn on ≡ true → here b (p .0) .role .talk ≡ false)
         → (atnOf b ≡ false → isOn on ≡ false → ⊥) → (atnOf b ≡ false → here b (p .0) .role .listen ≡ true)
-        → Good b (call-of.Of p (act-of.ListenOnly on)) (touch (atnOf b) b (p .0) (does (say ev.None 0 false 0) (withRole (withFlags (here b (p .0) .role .talk) (isOn on) (here b (p .0) .role)) (here b (p .0))) (b .standing)))
+        → Good b (call-of.Of p (act-of.ListenOnly on)) (settle (atnOf b) b (p .0) (does (say ev.None 0 false 0) (withRole (withFlags (here b (p .0) .role .talk) (isOn on) (here b (p .0) .role)) (here b (p .0))) (b .standing)))
     listen-flag on nt no-off was = kept-good b (call-of.Of p (act-of.ListenOnly on)) I (p .0) l (say ev.None 0 false 0) (withRole (withFlags (here b (p .0) .role .talk) (isOn on) (here b (p .0) .role)) (here b (p .0)))
         (record {
           name = refl;
@@ -112,7 +112,7 @@ module _ (b : Bus) (I : Inv b) (p : Place) where
         → (stands (b .standing) ≡ true → x ≡ Anrs → ⊥) → (x ≡ Acrs → ⊥) → (x ≡ Acds → ⊥)
         → (isOn on ≡ false → x ≡ Aids) → (isOn on ≡ true → x ≡ Aids → ⊥)
         → (here b (p .0) .acceptor ≡ Acrs → Left (call-of.Of p (act-of.ListenOnly on)) (p .0))
-        → Good b (call-of.Of p (act-of.ListenOnly on)) (touch (atnOf b) b (p .0) (does (say ev.None 0 false 0) (withRole (withFlags (here b (p .0) .role .talk) (isOn on) (here b (p .0) .role)) (withAcceptor x (here b (p .0)))) (b .standing)))
+        → Good b (call-of.Of p (act-of.ListenOnly on)) (settle (atnOf b) b (p .0) (does (say ev.None 0 false 0) (withRole (withFlags (here b (p .0) .role .talk) (isOn on) (here b (p .0) .role)) (withAcceptor x (here b (p .0)))) (b .standing)))
     listen-seat on x nt e an ac ad off up lv = seated-good b (call-of.Of p (act-of.ListenOnly on)) I (p .0) l (say ev.None 0 false 0) (withRole (withFlags (here b (p .0) .role .talk) (isOn on) (here b (p .0) .role)) (withAcceptor x (here b (p .0))))
         (record {
           inactive = inactive e;
@@ -150,7 +150,7 @@ module _ (b : Bus) (I : Inv b) (p : Place) where
       (λ o. listen-seat l on Aids nt t (λ s x. no (cc)) (λ x. no (cc)) (λ x. no (cc)) (λ _. refl) (λ f. no (cc)) (λ _. inl (rw (off-is-0 on (sw .0) o)))))
     where
       G : Acceptor → Type 0
-      G x = Good b (call-of.Of p (act-of.ListenOnly on)) (touch (atnOf b) b (p .0) (does (say ev.None 0 false 0) (withRole (withFlags (here b (p .0) .role .talk) (isOn on) (here b (p .0) .role)) (withAcceptor x (here b (p .0)))) (b .standing)))
+      G x = Good b (call-of.Of p (act-of.ListenOnly on)) (settle (atnOf b) b (p .0) (does (say ev.None 0 false 0) (withRole (withFlags (here b (p .0) .role .talk) (isOn on) (here b (p .0) .role)) (withAcceptor x (here b (p .0)))) (b .standing)))
 
       kn : (p .0 < b .count) × (isAccepted (ofSwitch on (listenRefusal (isOn on) (here b (p .0) .role .talk))) ≡ true)
       kn = known b p (ofSwitch on (listenRefusal (isOn on) (here b (p .0) .role .talk))) ok
@@ -176,7 +176,7 @@ module _ (b : Bus) (I : Inv b) (p : Place) where
       → (here b (p .0) .source ≡ Strs → isSource (atnOf b) (withRole (withFlags t (here b (p .0) .role .listen) (here b (p .0) .role)) (here b (p .0))) ≡ true
       → (isSource (atnOf b) (here b (p .0)) ≡ true) × (isPolled (atnOf b) (here b (p .0)) ≡ true → isPolled (atnOf b) (withRole (withFlags t (here b (p .0) .role .listen) (here b (p .0) .role)) (here b (p .0))) ≡ true))
       → Addressed (atnOf b) (λ j. look (b .standing) j (upd (here b) (p .0) (withRole (withFlags t (here b (p .0) .role .listen) (here b (p .0) .role)) (here b (p .0))) j))
-      → Good b c (touch (atnOf b) b (p .0) (does (say ev.None 0 false 0) (withRole (withFlags t (here b (p .0) .role .listen) (here b (p .0) .role)) (here b (p .0))) (b .standing)))
+      → Good b c (settle (atnOf b) b (p .0) (does (say ev.None 0 false 0) (withRole (withFlags t (here b (p .0) .role .listen) (here b (p .0) .role)) (here b (p .0))) (b .standing)))
   talk-flag c t l k w s pd ps o = kept-good b c I (p .0) l (say ev.None 0 false 0) (withRole (withFlags t (here b (p .0) .role .listen) (here b (p .0) .role)) (here b (p .0)))
       (record {
         name = refl;
@@ -199,7 +199,7 @@ module _ (b : Bus) (I : Inv b) (p : Place) where
 
   talk-on : (c : Call) → p .0 < b .count → ((j : ℕ) → c ≡ call-of.Of (place j) act-of.Step → j ≡ p .0) → wrote c ruling.Accepted ≡ 0
       → here b (p .0) .role .listen ≡ false → atnOf b ≡ false → isFound (otherTalker (b .count) (p .0) (b .parties)) ≡ false
-      → Good b c (touch (atnOf b) b (p .0) (does (say ev.None 0 false 0) (withRole (withFlags true (here b (p .0) .role .listen) (here b (p .0) .role)) (here b (p .0))) (b .standing)))
+      → Good b c (settle (atnOf b) b (p .0) (does (say ev.None 0 false 0) (withRole (withFlags true (here b (p .0) .role .listen) (here b (p .0) .role)) (here b (p .0))) (b .standing)))
   talk-on c l k w nl e f = talk-flag c true l k w (λ x y. no (cc))
       (λ s x. rw (talking e s) x)
       (λ s x. let z = talking e s in (rw z x, λ y. rw z at y))
@@ -231,7 +231,7 @@ module _ (b : Bus) (I : Inv b) (p : Place) where
       unique = upd-unique (here b) (p .0) new (λ x. x .role .talk) (roles .one) (λ h j g ne. no (solo j ne g))
 
   talk-off : (c : Call) → p .0 < b .count → ((j : ℕ) → c ≡ call-of.Of (place j) act-of.Step → j ≡ p .0) → wrote c ruling.Accepted ≡ 0
-      → Good b c (touch (atnOf b) b (p .0) (does (say ev.None 0 false 0) (withRole (withFlags false (here b (p .0) .role .listen) (here b (p .0) .role)) (here b (p .0))) (b .standing)))
+      → Good b c (settle (atnOf b) b (p .0) (does (say ev.None 0 false 0) (withRole (withFlags false (here b (p .0) .role .listen) (here b (p .0) .role)) (here b (p .0))) (b .standing)))
   talk-off c l k w = talk-flag c false l k w (λ x. no (cc))
       (λ s x. absurd (unpolled (atnOf b) (here b (p .0) .role .poll) x))
       (λ s x. let a = active x in (source-of-active (atnOf b) (here b (p .0)) a, λ y. absurd (under (I .pre .atnIf (p .0) a) y)))
@@ -275,6 +275,6 @@ module _ (b : Bus) (I : Inv b) (p : Place) where
       passed true false false true e f = no (cc)
       passed true false false false e f = (refl, refl, refl)
 
-      go : (x : Bool) → isOn on ≡ x → Good b c (touch (atnOf b) b (p .0) (does (say ev.None 0 false 0) (withRole (withFlags x (here b (p .0) .role .listen) (here b (p .0) .role)) (here b (p .0))) (b .standing)))
+      go : (x : Bool) → isOn on ≡ x → Good b c (settle (atnOf b) b (p .0) (does (say ev.None 0 false 0) (withRole (withFlags x (here b (p .0) .role .listen) (here b (p .0) .role)) (here b (p .0))) (b .standing)))
       go true o = let h = passed (isOn on) listen (atnOf b) another o (sw .1) in talk-on c (kn .0) (λ j x. no (cc)) refl (h .0) (h .1) (h .2)
       go false o = talk-off c (kn .0) (λ j x. no (cc)) refl

@@ -12,14 +12,14 @@ use Rattle.bus.specs.Types.ev
 use Rattle.bus.specs.Types.after
 use Rattle.bus.specs.Record.{here}
 use Rattle.effect.specs.Effects.{say}
-use Rattle.bus.specs.Settling.{settle, attend}
+use Rattle.bus.specs.Settling.{settleBus, attend}
 
 -- A call that changes party i: without attention, and with it ("a call that changes which party is active (or none)").
-abbrev pub touch : Bool → Bus → ℕ → Effect → Answer
-touch atn b i e = settle atn b (e .said) (set (b .parties) i (e .party)) (e .standing)
+abbrev pub settle : Bool → Bus → ℕ → Effect → Answer
+settle atn b i e = settleBus atn b (e .said) (set (b .parties) i (e .party)) (e .standing)
 
-abbrev pub alarm : Bus → ℕ → Effect → Answer
-alarm b i e = attend b (e .said) (set (b .parties) i (e .party)) (e .standing)
+abbrev pub attention : Bus → ℕ → Effect → Answer
+attention b i e = attend b (e .said) (set (b .parties) i (e .party)) (e .standing)
 
 -- Control goes from party i to party j: "that party is active, the sender idle, event passed"
 abbrev pub pass : Bus → ℕ → Effect → ℕ → Answer
@@ -36,9 +36,9 @@ clearAll b i e = attend b
     (e .standing)
 
 abbrev pub followed : After → Bool → Bus → ℕ → Effect → Answer
-followed after.Settle atn b i e = touch atn b i e
+followed after.Settle atn b i e = settle atn b i e
 followed (after.Pass j) atn b i e = pass b i e (j .0)
-followed after.Attend atn b i e = alarm b i e
+followed after.Attend atn b i e = attention b i e
 followed after.Clear atn b i e = clearAll b i e
 
 abbrev pub follow : Bool → Bus → ℕ → Effect → Answer

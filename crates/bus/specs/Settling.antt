@@ -24,8 +24,8 @@ answered off s b = record {
 }
 
 -- "After each accepted call every party settles."
-abbrev pub settleAs : Bool → Bool → Bus → Said → List Party → Standing → Answer
-settleAs atn off b s ps st = answered off s (record { parties = each (b .count) (settled atn) ps; count = b .count; system = b .system; standing = cond off Nothing st })
+abbrev pub settleBusAs : Bool → Bool → Bus → Said → List Party → Standing → Answer
+settleBusAs atn off b s ps st = answered off s (record { parties = each (b .count) (settled atn) ps; count = b .count; system = b .system; standing = cond off Nothing st })
 
 -- "A non-source goes to SIDS, its own standing byte broken off": its sender is no source any more.
 abbrev pub deserted : Bool → List Party → Standing → Bool
@@ -33,12 +33,12 @@ deserted atn ps Nothing = false
 deserted atn ps (Byte s k v e) = not (isSource atn (at ps (s .0)))
 
 -- Settling alone, with ATN as it is: no call changes who is active unless attention follows.
-abbrev pub settle : Bool → Bus → Said → List Party → Standing → Answer
-settle atn b s ps st = settleAs atn (deserted atn ps st) b s ps st
+abbrev pub settleBus : Bool → Bus → Said → List Party → Standing → Answer
+settleBus atn b s ps st = settleBusAs atn (deserted atn ps st) b s ps st
 
 -- Attention, then settling: "a standing byte is broken off and never put again; all sources to SIDS; ..".
 abbrev pub attendAs : Bool → Bus → Said → List Party → Standing → Answer
-attendAs atn b s ps st = settleAs atn (stands st) b s (each (b .count) (attended atn) ps) st
+attendAs atn b s ps st = settleBusAs atn (stands st) b s (each (b .count) (attended atn) ps) st
 
 abbrev pub attend : Bus → Said → List Party → Standing → Answer
 attend b s ps st = attendAs (some (b .count) isActive ps) b s ps st

@@ -6,7 +6,7 @@ ghost use Rattle.addresses.specs.Addresses.{names, placed};
 ghost use Rattle.bus.specs.Record.{build, buildExtended};
 use crate::Answer;
 use crate::Bus;
-use addresses::is_bad;
+use addresses::bad_build;
 use addresses::name_at;
 use effect::Refusal;
 use effect::Standing;
@@ -14,7 +14,7 @@ use party::Party;
 use party::Place;
 
 // A party for each address, with its secondary, then the idle party.
-fn parties_at(addresses: &[u8], secondaries: &[u8]) -> [Party; 15]
+fn placed(addresses: &[u8], secondaries: &[u8]) -> [Party; 15]
     requires { ⌜ length (now addresses) ≤ 15 ⌝ }
     ensures { λ r. ⌜ r ≡ placed 15 (names (now (addresses .entry)) (now (secondaries .entry))) ⌝ }
 {
@@ -40,11 +40,11 @@ impl Bus {
     pub fn build_extended(addresses: &[u8], secondaries: &[u8], system: Place) -> Answer
         ensures { λ r. ⌜ r ≡ buildExtended (names (now (addresses .entry)) (now (secondaries .entry))) system ⌝ }
     {
-        if is_bad(addresses, secondaries, system) {
+        if bad_build(addresses, secondaries, system) {
             return Bus::EMPTY.refuse(Refusal::BadBuild);
         }
         let bus = Bus {
-            parties: parties_at(addresses, secondaries),
+            parties: placed(addresses, secondaries),
             count: (addresses.len() % 256) as u8,
             system,
             standing: Standing::Nothing,

@@ -10,10 +10,10 @@ use effect::Act;
 use effect::Call;
 use effect::View;
 use parties::every::slot;
-use parties::sweeping::sweep;
+use parties::sweeping::sweep_of;
 use party::Place;
 use refusals::is_inside;
-use refusals::judged;
+use refusals::judge;
 
 impl Bus {
     // Any operation other than build.
@@ -25,7 +25,7 @@ impl Bus {
         let ps = self.parties;
         let st = self.standing;
         let system = self.system;
-        let s = sweep(ps, self.count).told(at, st.has_end());
+        let s = sweep_of(ps, self.count).told(at, st.has_end());
         let lines = s.lines;
         let talker = s.talker;
         let party = ps[at];
@@ -39,7 +39,7 @@ impl Bus {
             inside,
             chief: i.0 == system.0,
         };
-        let r = judged(c, v);
+        let r = judge(c, v);
         if r.is_accepted() {
             self.follow(lines.atn, i, effect_of(c, v))
         } else {
@@ -137,7 +137,7 @@ impl Bus {
     {
         let ps = self.parties;
         let st = self.standing;
-        let masks = sweep(ps, self.count).masks(st.end_mask(self.count));
+        let masks = sweep_of(ps, self.count).masks_with(st.end_mask(self.count));
         Drivers {
             masks,
             counts: masks.counts(),

@@ -2,7 +2,7 @@
 ghost use mathlib.Core.Path.{_≡_};
 ghost use Rattle.bus.specs.Record.{refuse};
 ghost use Rattle.bus.specs.Settling.{answered, attend};
-ghost use Rattle.bus.specs.Following.{touch, pass, clearAll, follow};
+ghost use Rattle.bus.specs.Following.{settle, pass, clearAll, follow};
 use crate::Answer;
 use crate::Bus;
 use effect::After;
@@ -12,13 +12,13 @@ use effect::Said;
 use effect::Standing;
 use event::Event;
 use parties::Change;
+use parties::every::at;
 use parties::every::change_all;
 use parties::every::clear_drops;
-use parties::every::party_at;
 use parties::every::with_party;
-use parties::every::within_places;
+use parties::every::within;
 use parties::sweeping::is_on;
-use parties::sweeping::sweep;
+use parties::sweeping::sweep_of;
 use party::Control;
 use party::Party;
 use party::Place;
@@ -40,7 +40,7 @@ impl Bus {
     }
 
     // The answer of an accepted call that leaves this bus; `off` says that a byte was broken off.
-    fn answer(self, said: Said, off: bool) -> Answer
+    fn answered(self, said: Said, off: bool) -> Answer
         ensures { λ r. ⌜ r ≡ answered off said self ⌝ }
     {
         let event = said.event;
@@ -57,7 +57,7 @@ impl Bus {
 
     // The effect on party i is made, and every party settles. The loop stands twice so that ATN is tested once.
     fn settle(self, atn: bool, i: Place, e: Effect) -> Answer
-        ensures { λ r. ⌜ r ≡ touch atn self (i .0) e ⌝ }
+        ensures { λ r. ⌜ r ≡ settle atn self (i .0) e ⌝ }
     {
         let said = e.said;
         let party = e.party;
@@ -70,7 +70,7 @@ impl Bus {
         }
         let sender = parties[st.sender_slot()];
         let off = st.is_left(sender.is_source(atn));
-        let n = within_places(self.count);
+        let n = within(self.count);
         let mut k: usize = 0;
         if atn {
             while k < n {
@@ -92,14 +92,14 @@ impl Bus {
             system,
             standing,
         };
-        bus.answer(said, off)
+        bus.answered(said, off)
     }
 
     // Attention: a standing byte is broken off, and every party heeds ATN as it then is, and settles.
     fn attend(self, said: Said, ps: [Party; 15], st: Standing) -> Answer
         ensures { λ r. ⌜ r ≡ attend self said ps st ⌝ }
     {
-        let s = sweep(ps, self.count);
+        let s = sweep_of(ps, self.count);
         let parties = change_all(ps, self.count, Change::Attend(is_on(s.atn)));
         let system = self.system;
         let off = st.stands();
@@ -110,7 +110,7 @@ impl Bus {
             system,
             standing,
         };
-        bus.answer(said, off)
+        bus.answered(said, off)
     }
 
     // Control goes from party i, whose TCT has ended, to party j.
@@ -121,7 +121,7 @@ impl Bus {
         let party = e.party;
         let standing = e.standing;
         let ps = self.parties;
-        let next = party_at(ps, j);
+        let next = at(ps, j);
         let dropped = party.held_bytes() + next.held_bytes();
         let told = Said::say(Event::Passed, said.byte, said.end, dropped);
         let left = with_party(ps, i, party.change_control(Control::Idle));
@@ -133,13 +133,13 @@ impl Bus {
     }
 
     // Every party is cleared; the system party, i, is as its effect has it.
-    fn clear(self, i: Place, e: Effect) -> Answer
+    fn clear_all(self, i: Place, e: Effect) -> Answer
         ensures { λ r. ⌜ r ≡ clearAll self (i .0) e ⌝ }
     {
         let party = e.party;
         let standing = e.standing;
         let ps = self.parties;
-        let chief = party_at(ps, i).cleared();
+        let chief = at(ps, i).cleared();
         let dropped = clear_drops(ps, self.count) + chief.held_bytes();
         let told = Said::say(Event::None, 0, false, dropped);
         let all = change_all(ps, self.count, Change::Clear);
@@ -159,7 +159,7 @@ impl Bus {
             After::Settle => self.settle(atn, i, e),
             After::Pass(j) => self.pass(i, e, j),
             After::Attend => self.attend(said, with_party(ps, i, party), standing),
-            After::Clear => self.clear(i, e),
+            After::Clear => self.clear_all(i, e),
         }
     }
 }

@@ -5,7 +5,7 @@ ghost use Prim.Native.Nat.{_<_};
 ghost use Rattle.parties.specs.Places.{within};
 ghost use Rattle.parties.specs.Masks.{mask};
 ghost use Rattle.effect.specs.Types.{Nothing};
-ghost use Rattle.effect.specs.Stands.{stands, hasEnd, sendsCommand, sendsEnd, senderSlot, left};
+ghost use Rattle.effect.specs.Stands.{stands, hasEnd, sendsCommand, sendsEnd, senderSlot, isLeft};
 use crate::Standing;
 use offer::Kind;
 use parties::every::slot;
@@ -43,7 +43,7 @@ impl Standing {
     }
 
     // Does a command of party p stand?
-    pub fn is_command_of(self, p: Place) -> bool
+    pub fn sends_command(self, p: Place) -> bool
         ensures { λ r. ⌜ r ≡ sendsCommand (p .0) self ⌝ }
     {
         match self {
@@ -93,7 +93,7 @@ impl Standing {
 
     // Is what stands broken off by settling, its sender a source or not? Who is at no place is none.
     pub fn is_left(self, source: bool) -> bool
-        ensures { λ r. ⌜ r ≡ left source self ⌝ }
+        ensures { λ r. ⌜ r ≡ isLeft source self ⌝ }
     {
         match self {
             Standing::Nothing => false,

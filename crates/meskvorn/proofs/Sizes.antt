@@ -28,7 +28,7 @@ use Rattle.bus.specs.Drivers.{drivers}
 use Rattle.bus.specs.Machine.{viewAt, call, refusal, accepted, run}
 use Rattle.runner.specs.Waiting.{byPlace}
 use Rattle.turn_laws.specs.Steps.{steps}
-use Rattle.runner.specs.Runner.{turnsOf, runner}
+use Rattle.runner.specs.Runner.{turnsOf, giveTurns}
 use Rattle.orders.specs.Orders.{orderOf, obey, buildFrom, countUp}
 use Rattle.orders.specs.declared.Order.{Order}
 use Rattle.orders.specs.declared.Order.the-variants as order
@@ -71,7 +71,7 @@ run-size : (b : Bus) (cs : List Call) → Full b → Full (run b cs)
 run-size b [] h = h
 run-size b (c ∷ cs) h = run-size (call b c .bus) cs (call-size b c h)
 
-pub turns-size : (b : Bus) (t : ℕ) → Full b → Full (runner byPlace b t .bus)
+pub turns-size : (b : Bus) (t : ℕ) → Full b → Full (giveTurns byPlace b t .bus)
 turns-size b t h = run-size b (steps (turnsOf byPlace b t)) h
 
 obey-size : (b : Bus) (o : Order) → Full b → Full (obey b o .bus)

@@ -14,7 +14,7 @@ use Rattle.bus.specs.Drivers.{drivers}
 use Rattle.effect.specs.Words.{refusalNumber}
 use Rattle.runner.specs.declared.Given.{Given}
 use Rattle.runner.specs.Waiting.{byPlace}
-use Rattle.runner.specs.Runner.{runner}
+use Rattle.runner.specs.Runner.{giveTurns}
 use Rattle.image.specs.Image.{rowsOf, busOf}
 use Rattle.packing.specs.Packing.{packed}
 use Rattle.meskvorn.specs.Host.{answerTo, Answered, Gave, maskList, countList, Counted}
@@ -42,7 +42,7 @@ pub data Reply : Type 0 where
   driven : ℕ → List ℕ → List ℕ → Reply
 
 abbrev pub turnsOf : Bus → ℕ → Given
-turnsOf b t = runner byPlace b t
+turnsOf b t = giveTurns byPlace b t
 
 -- The machine's bus after them, and what it has to say.
 abbrev pub busAfter : Bus → List Asked → Bus

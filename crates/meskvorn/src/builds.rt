@@ -10,7 +10,7 @@ use image::reading::bus_of;
 use image::writing::rows_of;
 use packing::packed;
 use packing::packed_name;
-use parties::every::party_at;
+use parties::every::at;
 use party::Place;
 use refusals::is_inside;
 
@@ -46,7 +46,7 @@ fn name_number(b: Bus, p: Place) -> u16
     ensures { λ r. ⌜ r ≡ nameNumber b (p .0) ⌝ }
 {
     let ps = b.parties;
-    let q = party_at(ps, p);
+    let q = at(ps, p);
     let role = q.role;
     let name = role.name;
     if is_inside(p, b.count) {

@@ -14,7 +14,7 @@ address a = record { 0 = a }
 abbrev pub secondary : ℕ → SecondaryAddress
 secondary s = record { 0 = s }
 
--- "04 SDC, 08 GET, 09 TCT, 14 DCL, 18 SPE, 19 SPD; all else no meaning"
+-- "04 SDC, 08 GET, 09 TCT, 14 DCL, 18 SPE, 19 SPD; all else no meaningOf"
 unfoldable pub named : ℕ → Meaning
 named n =
     cond (eqb n 0x04) Sdc
@@ -35,10 +35,10 @@ sevenBits n =
     (cond (ltb n 0x7f) (Second (secondary (n - 0x60))) Neither)))))
 
 -- "hexadecimal: entry b is entry b mod 80"
-unfoldable pub meaning : ℕ → Meaning
-meaning b = sevenBits (b % 0x80)
+unfoldable pub meaningOf : ℕ → Meaning
+meaningOf b = sevenBits (b % 0x80)
 
--- The code that stands for a meaning in the constant table.
+-- The code that stands for a meaningOf in the constant table.
 abbrev pub codeOf : Meaning → ℕ
 codeOf Other = 0
 codeOf (Listen a) = 1
@@ -54,7 +54,7 @@ codeOf Spd = 10
 codeOf (Second s) = 11
 codeOf Neither = 12
 
--- The meaning of a code, with the number that the byte carries.
+-- The meaningOf of a code, with the number that the byte carries.
 unfoldable pub decode : ℕ → ℕ → Meaning
 decode c n =
     cond (eqb c 1) (Listen (address n))

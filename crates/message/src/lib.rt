@@ -1,6 +1,6 @@
 // Command bytes and what they mean: document 01's table of 256 meanings.
 ghost use mathlib.Core.Path.{_≡_};
-ghost use Rattle.message.specs.Meaning.{codeOf, decode, meaning};
+ghost use Rattle.message.specs.Meaning.{codeOf, decode, meaningOf};
 
 pub mod table;
 
@@ -31,14 +31,14 @@ pub enum Meaning {
 
 // The table's entry of a byte.
 pub fn code_of(byte: u8) -> u8
-    ensures { λ r. ⌜ r ≡ codeOf (meaning byte) ⌝ }
+    ensures { λ r. ⌜ r ≡ codeOf (meaningOf byte) ⌝ }
 {
     let i = byte as usize;
     table::CODES[i]
 }
 
 // What a byte with this code means, if its low five bits are the number of an address.
-fn decoded(code: u8, number: u8) -> Meaning
+fn decode(code: u8, number: u8) -> Meaning
     ensures { λ r. ⌜ r ≡ decode code number ⌝ }
 {
     match code {
@@ -60,7 +60,7 @@ fn decoded(code: u8, number: u8) -> Meaning
 
 // The meaning of a command byte.
 pub fn meaning_of(byte: u8) -> Meaning
-    ensures { λ r. ⌜ r ≡ meaning byte ⌝ }
+    ensures { λ r. ⌜ r ≡ meaningOf byte ⌝ }
 {
-    decoded(code_of(byte), byte % 32)
+    decode(code_of(byte), byte % 32)
 }

@@ -13,12 +13,12 @@ abbrev pub plain : Address → Name
 plain a = record { address = a; secondary = Absent }
 
 -- "address over 30"; "with a secondary over 30, BADBUILD"
-abbrev pub secondaryOver30 : Secondary → Bool
-secondaryOver30 Absent = false
-secondaryOver30 (Given s) = ltb 30 (s .0)
+abbrev pub secondaryIsOver30 : Secondary → Bool
+secondaryIsOver30 Absent = false
+secondaryIsOver30 (Given s) = ltb 30 (s .0)
 
-abbrev pub over30 : Name → Bool
-over30 n = ltb 30 (n .address .0) || secondaryOver30 (n .secondary)
+abbrev pub isOver30 : Name → Bool
+isOver30 n = ltb 30 (n .address .0) || secondaryIsOver30 (n .secondary)
 
 -- "Two parties may share a primary only if both have secondaries and these differ": two names that one bus may not have.
 abbrev pub meets : Secondary → Secondary → Bool
@@ -26,8 +26,8 @@ meets Absent t = true
 meets (Given s) Absent = true
 meets (Given s) (Given t) = eqb (s .0) (t .0)
 
-abbrev pub clash : Name → Name → Bool
-clash n m = eqb (n .address .0) (m .address .0) && meets (n .secondary) (m .secondary)
+abbrev pub clashes : Name → Name → Bool
+clashes n m = eqb (n .address .0) (m .address .0) && meets (n .secondary) (m .secondary)
 
 -- Is this the secondary that was given?
 abbrev pub isGiven : SecondaryAddress → Secondary → Bool

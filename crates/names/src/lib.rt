@@ -1,6 +1,6 @@
 // Names: what a build fixes of a party, which of them make a bus, and which two may not be on one.
 ghost use mathlib.Core.Path.{_≡_};
-ghost use Rattle.names.specs.Names.{secondaryOver30, over30, meets, clash, isGiven};
+ghost use Rattle.names.specs.Names.{secondaryIsOver30, isOver30, meets, clashes, isGiven};
 use message::Address;
 use message::SecondaryAddress;
 
@@ -18,7 +18,7 @@ pub struct Name {
 
 impl Secondary {
     fn is_over_30(self) -> bool
-        ensures { λ r. ⌜ r ≡ secondaryOver30 self ⌝ }
+        ensures { λ r. ⌜ r ≡ secondaryIsOver30 self ⌝ }
     {
         match self {
             Secondary::Absent => false,
@@ -63,7 +63,7 @@ impl Name {
     };
 
     pub fn is_over_30(self) -> bool
-        ensures { λ r. ⌜ r ≡ over30 self ⌝ }
+        ensures { λ r. ⌜ r ≡ isOver30 self ⌝ }
     {
         let address = self.address;
         let secondary = self.secondary;
@@ -76,7 +76,7 @@ impl Name {
 
     // May no bus have two parties of these names?
     pub fn clashes(self, other: Name) -> bool
-        ensures { λ r. ⌜ r ≡ clash self other ⌝ }
+        ensures { λ r. ⌜ r ≡ clashes self other ⌝ }
     {
         let mine = self.address;
         let its = other.address;

@@ -40,7 +40,7 @@ pub fn order_of(op: u8, party: u8, value: u8, extra: u8) -> Order
 }
 
 // Fifteen addresses, from the first on.
-fn addresses(first: u8) -> [u8; 15]
+fn count_up(first: u8) -> [u8; 15]
     requires { ⌜ first ≤ 30 ⌝ }
     ensures { λ r. ⌜ r ≡ countUp 15 first ⌝ }
 {
@@ -73,7 +73,7 @@ fn build_from(system: Place, n: u8, first: u8) -> Answer
     if 30 < first {
         return Bus::build(b"", system);
     }
-    let all = addresses(first);
+    let all = count_up(first);
     let count = n as usize;
     Bus::build(&all[..count], system)
 }

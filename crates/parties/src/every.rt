@@ -11,7 +11,7 @@ use party::Party;
 use party::Place;
 
 // How many of the fifteen places have parties.
-pub fn within_places(count: u8) -> usize
+pub fn within(count: u8) -> usize
     ensures { λ r. ⌜ (r ≡ within count) × (r ≤ 15) ⌝ }
 {
     if count < 15 { count as usize } else { 15 }
@@ -25,7 +25,7 @@ pub fn slot(p: Place) -> usize
 }
 
 // The party at a place, and the idle party where there is none.
-pub fn party_at(ps: [Party; 15], p: Place) -> Party
+pub fn at(ps: [Party; 15], p: Place) -> Party
     ensures { λ r. ⌜ r ≡ at ps (p .0) ⌝ }
 {
     let i = p.0 as usize;
@@ -64,7 +64,7 @@ impl Found {
 }
 
 // A change of one party.
-fn change_of(c: Change, p: Party) -> Party
+fn changed(c: Change, p: Party) -> Party
     ensures { λ r. ⌜ r ≡ changed c p ⌝ }
 {
     match c {
@@ -78,11 +78,11 @@ pub fn change_all(ps: [Party; 15], count: u8, c: Change) -> [Party; 15]
     ensures { λ r. ⌜ r ≡ each count (changed c) ps ⌝ }
 {
     let mut out = ps;
-    let n = within_places(count);
+    let n = within(count);
     let mut k: usize = 0;
     while k < n {
         let p = out[k];
-        let q = change_of(c, p);
+        let q = changed(c, p);
         out[k] = q;
         k = k + 1;
     }
@@ -94,7 +94,7 @@ pub fn clear_drops(ps: [Party; 15], count: u8) -> u8
     ensures { λ r. ⌜ (r ≡ total count clearDrops ps) × (r ≤ 15) ⌝ }
 {
     let mut sum: u8 = 0;
-    let n = within_places(count);
+    let n = within(count);
     let mut k: usize = 0;
     while k < n {
         let p = ps[k];

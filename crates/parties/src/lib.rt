@@ -66,7 +66,7 @@ pub enum Change {
 }
 
 // The weight of a line in the lines answer.
-fn bit(on: bool, w: u8) -> u8
+fn weight(on: bool, w: u8) -> u8
     ensures { λ r. ⌜ (r ≡ weight w on) × (r ≤ w) ⌝ }
 {
     if on { w } else { 0 }
@@ -77,11 +77,11 @@ impl Lines {
     pub fn byte(self) -> u8
         ensures { λ r. ⌜ r ≡ linesByte self ⌝ }
     {
-        bit(self.atn, 128)
-            + bit(self.dav, 64)
-            + bit(self.ndac, 32)
-            + bit(self.nrfd, 16)
-            + bit(self.eoi, 8)
-            + bit(self.srq, 4)
+        weight(self.atn, 128)
+            + weight(self.dav, 64)
+            + weight(self.ndac, 32)
+            + weight(self.nrfd, 16)
+            + weight(self.eoi, 8)
+            + weight(self.srq, 4)
     }
 }

@@ -11,12 +11,12 @@ use crate::Lines;
 use crate::Masks;
 use crate::Scan;
 use crate::Sweep;
-use crate::every::within_places;
+use crate::every::within;
 use party::Party;
 use party::Place;
 
 // A mask with one party more, below those that it has.
-fn push(m: u16, on: bool) -> u16
+fn pushed(m: u16, on: bool) -> u16
     ensures { λ r. ⌜ r ≡ pushed m on ⌝ }
 {
     (m << 1) | (on as u16)
@@ -32,7 +32,7 @@ pub fn is_on(m: u16) -> bool
 pub fn bit_of(p: Place, count: u8) -> u16
     ensures { λ r. ⌜ r ≡ mask (within count) (λ i. eqb i (p .0)) ⌝ }
 {
-    let n = within_places(count);
+    let n = within(count);
     let at = p.0 as usize;
     if at < n { 1u16 << (at as u16) } else { 0 }
 }
@@ -78,17 +78,17 @@ impl Sweep {
     };
 
     // With the party at the place below those that were seen.
-    fn with(self, p: Party) -> Sweep
+    fn swept_by(self, p: Party) -> Sweep
         ensures { λ r. ⌜ r ≡ sweptBy self p ⌝ }
     {
         let role = p.role;
         Sweep {
-            atn: push(self.atn, p.is_active()),
-            dav: push(self.dav, p.drives_dav()),
-            nrfd: push(self.nrfd, p.drives_nrfd()),
-            ndac: push(self.ndac, p.drives_ndac()),
-            srq: push(self.srq, p.drives_srq()),
-            talk: push(self.talk, role.talk),
+            atn: pushed(self.atn, p.is_active()),
+            dav: pushed(self.dav, p.drives_dav()),
+            nrfd: pushed(self.nrfd, p.drives_nrfd()),
+            ndac: pushed(self.ndac, p.drives_ndac()),
+            srq: pushed(self.srq, p.drives_srq()),
+            talk: pushed(self.talk, role.talk),
         }
     }
 
@@ -111,7 +111,7 @@ impl Sweep {
     }
 
     // The masks of all lines. That of EOI is its sender's, which what stands on the bus decides and no party's state.
-    pub fn masks(self, sender: u16) -> Masks
+    pub fn masks_with(self, sender: u16) -> Masks
         ensures { λ r. ⌜ r ≡ masksWith self sender ⌝ }
     {
         Masks {
@@ -126,15 +126,15 @@ impl Sweep {
 }
 
 // The pass: from the last party to the first, all masks together.
-pub fn sweep(ps: [Party; 15], count: u8) -> Sweep
+pub fn sweep_of(ps: [Party; 15], count: u8) -> Sweep
     ensures { λ r. ⌜ r ≡ sweepOf (within count) ps ⌝ }
 {
     let mut s = Sweep::NONE;
-    let mut k = within_places(count);
+    let mut k = within(count);
     while 0 < k {
         k = k - 1;
         let p = ps[k];
-        s = s.with(p);
+        s = s.swept_by(p);
     }
     s
 }

@@ -5,7 +5,7 @@ use mathlib.Core.Bool.{Bool, true, false, not, cond, _&&_, _||_}
 use mathlib.Core.Logic.{_⊎_, inl, inr}
 use Prim.Native.Nat.{ℕ}
 use Rattle.party.specs.Types.{Name, Party, Source, Sids, Sgns, Sdys, Strs, Service, Nprs, Srqs, Aprs}
-use Rattle.party.specs.Parts.{newborn}
+use Rattle.party.specs.Parts.{builtParty}
 use Rattle.party.specs.Driving.{isActive}
 use Rattle.party.specs.Sending.{isSource, isPolled}
 use Rattle.party.specs.Settling.{attended, sourceSettled, settled}
@@ -13,7 +13,7 @@ use Rattle.service.specs.Service.{serviceSettled, asks, liveSettled}
 use Rattle.role.proofs.Logic.{no}
 use Rattle.role.proofs.Roles.{marked}
 
-pub newborn-still : (atn : Bool) (n : Name) → settled atn (newborn n) ≡ newborn n
+pub newborn-still : (atn : Bool) (n : Name) → settled atn (builtParty n) ≡ builtParty n
 newborn-still true n = refl
 newborn-still false n = refl
 

@@ -9,8 +9,8 @@ use Rattle.offer.specs.Offer.{isFull}
 use Rattle.party.specs.Types.{Name, Role, Request, Party, Control, Source, Acceptor, Slot, Idle, Sids, Aids, Empty, Nprs}
 
 -- "All flags are off, control idle, SIDS, AIDS, nothing held, poll registers 0, NPRS."
-abbrev pub newborn : Name → Party
-newborn n = record {
+abbrev pub builtParty : Name → Party
+builtParty n = record {
   role = unaddressed n;
   control = Idle;
   source = Sids;
@@ -22,7 +22,7 @@ newborn n = record {
 
 -- The idle party: "its address is 0".
 abbrev pub idle : Party
-idle = newborn (plain (address 0))
+idle = builtParty (plain (address 0))
 
 -- How many of one thing: 1 where the test holds, else 0.
 abbrev pub one : Bool → ℕ

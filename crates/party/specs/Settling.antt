@@ -13,12 +13,12 @@ abbrev pub changeControl : Control → Party → Party
 changeControl c p = withHeld Empty (withControl c p)
 
 -- "with ATN true the active party to AIDS, all others to ANRS; with ATN false listeners to ANRS, others to AIDS"
-abbrev pub attendedAcceptor : Bool → Bool → Bool → Acceptor
-attendedAcceptor atn active listen = cond atn (cond active Aids Anrs) (cond listen Anrs Aids)
+abbrev pub acceptorAttended : Bool → Bool → Bool → Acceptor
+acceptorAttended atn active listen = cond atn (cond active Aids Anrs) (cond listen Anrs Aids)
 
 -- "all sources to SIDS". Document 02, Q-3: "every change of which party is active" clears the marks.
 abbrev pub attended : Bool → Party → Party
-attended atn p = withRole (withMark Unmarked (p .role)) (withSource Sids (withAcceptor (attendedAcceptor atn (isActive p) (p .role .listen)) p))
+attended atn p = withRole (withMark Unmarked (p .role)) (withSource Sids (withAcceptor (acceptorAttended atn (isActive p) (p .role .listen)) p))
 
 -- "A non-source goes to SIDS ..; a source in SIDS to SGNS."
 abbrev pub sourceSettled : Bool → Source → Source

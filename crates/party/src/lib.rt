@@ -1,6 +1,6 @@
 // A party of the bus: its states, and what one party drives, hears, offers and settles to.
 ghost use mathlib.Core.Path.{_≡_};
-ghost use Rattle.party.specs.Parts.{newborn};
+ghost use Rattle.party.specs.Parts.{builtParty};
 ghost use Rattle.role.specs.Roles.{unaddressed};
 use names::Name;
 use offer::Slot;
@@ -65,7 +65,7 @@ impl Party {
 
     // The party that a build gives this name.
     pub fn build(name: Name) -> Party
-        ensures { λ r. ⌜ r ≡ newborn name ⌝ }
+        ensures { λ r. ⌜ r ≡ builtParty name ⌝ }
     {
         Party::IDLE.with_role(Role::unaddressed(name))
     }

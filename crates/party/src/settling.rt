@@ -1,6 +1,6 @@
 // Attention and settling, of one party.
 ghost use mathlib.Core.Path.{_≡_};
-ghost use Rattle.party.specs.Settling.{attendedAcceptor, attended, sourceSettled, settled};
+ghost use Rattle.party.specs.Settling.{acceptorAttended, attended, sourceSettled, settled};
 use crate::Acceptor;
 use crate::Party;
 use crate::Source;
@@ -8,7 +8,7 @@ use role::Mark;
 
 impl Acceptor {
     fn attended(atn: bool, active: bool, listen: bool) -> Acceptor
-        ensures { λ r. ⌜ r ≡ attendedAcceptor atn active listen ⌝ }
+        ensures { λ r. ⌜ r ≡ acceptorAttended atn active listen ⌝ }
     {
         if atn {
             if active {

@@ -81,7 +81,7 @@ fn standby_refusal(active: bool, sends: bool) -> Refusal
 }
 
 // What a call of a party that is there meets, or Accepted.
-fn met(a: Act, v: View) -> Refusal
+fn own(a: Act, v: View) -> Refusal
     ensures { λ r. ⌜ r ≡ own v a ⌝ }
 {
     let i = v.place;
@@ -113,22 +113,22 @@ fn met(a: Act, v: View) -> Refusal
             talk_refusal(is_on(on), role.listen, l.atn, talker.is_found()),
         ),
         Act::TakeControl => when(in_standby(control), Refusal::Accepted, Refusal::Role),
-        Act::GoToStandby => standby_refusal(p.is_active(), st.is_command_of(i)),
+        Act::GoToStandby => standby_refusal(p.is_active(), st.sends_command(i)),
         Act::InterfaceClear => when(v.chief, Refusal::Accepted, Refusal::Role),
-        Act::Reset => when(st.is_command_of(i), Refusal::Standing, Refusal::Accepted),
+        Act::Reset => when(st.sends_command(i), Refusal::Standing, Refusal::Accepted),
         Act::Drop => Refusal::Accepted,
         Act::SecondRequest(on) => when(1 < on, Refusal::BadValue, Refusal::Accepted),
     }
 }
 
 // The refusal that a call meets, or Accepted. Lines and drivers name no party, and meet nothing.
-pub fn judged(c: Call, v: View) -> Refusal
+pub fn judge(c: Call, v: View) -> Refusal
     ensures { λ r. ⌜ r ≡ judge v c ⌝ }
 {
     match c {
         Call::Of(_, a) => {
             if v.inside {
-                met(a, v)
+                own(a, v)
             } else {
                 Refusal::NoParty
             }

@@ -3,7 +3,7 @@
 use mathlib.Core.Path.{_≡_, refl, sym}
 use mathlib.Core.Bool.{Bool, true, false, not, cond, _||_}
 use Prim.Native.Nat.{ℕ}
-use Rattle.message.specs.Meaning.{meaning}
+use Rattle.message.specs.Meaning.{meaningOf}
 use Rattle.service.specs.declared.Request.{Request}
 use Rattle.service.specs.Service.{status, withSaved, withRsv2, reported}
 use Rattle.role.proofs.Logic.{no, cond-elim}
@@ -119,7 +119,7 @@ module _ (v : View) where
   takes-turn : (st : Standing) → Turned (takes-up st v)
   takes-turn Nothing = silent refl refl refl
   takes-turn (Byte s k x e) = cond-elim Turned (v .lines .atn)
-      (λ _. silent (hear-events (λ (y : Event). isStat y ≡ false) refl refl refl (meaning x) (v .party .role .listen)) refl refl)
+      (λ _. silent (hear-events (λ (y : Event). isStat y ≡ false) refl refl refl (meaningOf x) (v .party .role .listen)) refl refl)
       (λ _. silent refl refl refl)
 
   acceptor-turn : (a : Acceptor) → Turned (acceptorIn a v)

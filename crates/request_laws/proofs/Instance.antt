@@ -7,7 +7,7 @@ use Prim.Native.Nat.{ℕ, zero, suc, _+_, _-_, _<_, _≤_}
 use native.Mathlib.Omega.{arith}
 use lib.Dec.{eqb}
 use borrow.Author.Tests.{eqb-true, eqb-false}
-use Rattle.message.specs.Meaning.{meaning, sevenBits, named}
+use Rattle.message.specs.Meaning.{meaningOf, sevenBits, named}
 use Rattle.service.specs.Service.{rsv}
 use Rattle.role.proofs.Logic.{no}
 use Rattle.effect.specs.Words.{actNumber}
@@ -47,11 +47,11 @@ of-false true h e = no (cc)
 of-false false h e = no (cc)
 
 asks : AsksAt bus calls 1 1
-unfolding meaning sevenBits named
+unfolding meaningOf sevenBits named
 asks = record { there = omega arith; call = refl; accepted = refl; nprs = refl; outside = refl }
 
 poll : Poll bus calls 1 19 36
-unfolding meaning sevenBits named
+unfolding meaningOf sevenBits named
 poll = record {
   order = (omega arith, omega arith);
   unbroken = λ j l m. holds 19 18 (polled bus calls 1) refl j l (omega arith);
@@ -60,11 +60,11 @@ poll = record {
 }
 
 none : NoneBetween bus calls 1 1 19
-unfolding meaning sevenBits named
+unfolding meaningOf sevenBits named
 none j l m t = of-false (isStat (answerAt bus calls j .event)) (holds 2 17 (λ j. not (isStat (answerAt bus calls j .event))) refl j l m) (ap isStat (t .2))
 
 left : Left bus calls 1 1 49
-unfolding meaning sevenBits named
+unfolding meaningOf sevenBits named
 left = record {
   untouched = λ k l m t. of-false (touches (moment bus calls k .call)) (holds 2 47 (λ j. not (touches (moment bus calls j .call))) refl k l m) (touched k (t .1));
   clear = λ k l m. clear-bit (rsv (requestAt bus calls 1 k .live)) (holds 2 48 (λ j. not (rsv (requestAt bus calls 1 j .live))) refl k l (omega arith));
@@ -79,7 +79,7 @@ left = record {
     clear-bit false h = refl
 
 pub speaks : Speaks
-unfolding meaning sevenBits named
+unfolding meaningOf sevenBits named
 speaks = record {
   first = record { asks = asks; poll = poll; after = omega arith; none = none; puts = (omega arith, refl, refl); within = (omega arith, omega arith) };
   second = record { asks = asks; poll = poll; after = omega arith; none = none; puts = (omega arith, refl, refl); within = (omega arith, omega arith) };

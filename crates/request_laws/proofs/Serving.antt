@@ -29,7 +29,7 @@ use Rattle.effect.specs.Effects.{withStanding}
 use Rattle.accepted.specs.Accepted.{effectOf}
 use Rattle.bus.specs.Record.{here, lines, refuse}
 use Rattle.effect.specs.Stands.{stands}
-use Rattle.bus.specs.Settling.{settleAs, deserted, attend}
+use Rattle.bus.specs.Settling.{settleBusAs, deserted, attend}
 use Rattle.bus.specs.Following.{followed}
 use Rattle.bus.specs.Machine as m
 use Rattle.bus.proofs.Invariant.{Inv, atnOf}
@@ -54,7 +54,7 @@ module _ (b : Bus) (I : Inv b) where
   -- a bus whose parties settle from ps
   module _ (t off : Bool) (s : Said) (ps : List Party) (st : Standing) (te : some (b .count) isActive ps ≡ t) (fits : b .count ≤ length ps) where
     abbrev now : Bus
-    now = settleAs t off b s ps st .bus
+    now = settleBusAs t off b s ps st .bus
 
     seen : (j : ℕ) → j < b .count → here now j ≡ settled t (at ps j)
     seen j l = each-below (b .count) (settled t) ps j l fits

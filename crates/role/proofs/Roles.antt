@@ -9,10 +9,10 @@ use borrow.Author.Tests.{eqb-true}
 use Rattle.message.specs.declared.Meaning.the-variants.{Other, Listen, Unlisten, Talk, Untalk, Sdc, Get, Tct, Dcl, Spe, Spd, Second, Neither}
 use Rattle.role.specs.Types.{Address, SecondaryAddress, Meaning, Name, Role, Event}
 use Rattle.role.specs.Types.ev
-use Rattle.names.specs.Names.{meets, clash}
+use Rattle.names.specs.Names.{meets, clashes}
 use Rattle.names.proofs.Clashes.{isExtended, meets-extended, given-meets, same-clash}
 use Rattle.role.specs.Roles.{unaddressed, withFlags}
-use Rattle.role.specs.Hearing.{own, ownSecondary, markAfter, hear, hearEvent, passesControl}
+use Rattle.role.specs.Hearing.{owns, ownsSecondary, markAfter, roleHeard, hearEvent, passesControl}
 use Rattle.role.proofs.Logic.{no, test, cond-elim, or-left, or-right}
 use Rattle.role.proofs.Cases.{talkPrimary, listen-elim, talk-elim, second-elim, listen-weak, talk-weak, second-weak, listen-unmarked, listen-talk, talk-talk, talk-mark, talk-sets, second-talk}
 
@@ -25,7 +25,7 @@ primaryOf n = n .address .0
 
 -- no two of the first n roles answer to the same bytes
 abbrev pub Apart : ℕ → (ℕ → Role) → Type 0
-Apart n w = (i j : ℕ) → i < n → j < n → clash (nameOf (w i)) (nameOf (w j)) ≡ true → i ≡ j
+Apart n w = (i j : ℕ) → i < n → j < n → clashes (nameOf (w i)) (nameOf (w j)) ≡ true → i ≡ j
 
 -- the role waits for its talk secondary
 abbrev pub marked : Role → Bool
@@ -82,11 +82,11 @@ unmarked w u h = record { one = u; led = λ i j e f. let z = h i in no (cc); nea
 abbrev pub Single : Role → Type 0
 Single r = r .talk ≡ true → r .listen ≡ true → ⊥
 
-pub hear-single : (m : Meaning) (r : Role) → Single r → Single (hear m r)
+pub hear-single : (m : Meaning) (r : Role) → Single r → Single (roleHeard m r)
 hear-single Other r h = h
-hear-single (Listen a) r h = listen-elim Single (nameOf r .secondary) (own a r) r (λ e. no (cc)) h
+hear-single (Listen a) r h = listen-elim Single (nameOf r .secondary) (owns a r) r (λ e. no (cc)) h
 hear-single Unlisten r h = λ e f. no (cc)
-hear-single (Talk a) r h = talk-elim Single (nameOf r .secondary) (own a r) r (λ e f. no (cc)) (λ e. no (cc)) h
+hear-single (Talk a) r h = talk-elim Single (nameOf r .secondary) (owns a r) r (λ e f. no (cc)) (λ e. no (cc)) h
 hear-single Untalk r h = λ e. no (cc)
 hear-single Sdc r h = h
 hear-single Get r h = h
@@ -94,14 +94,14 @@ hear-single Tct r h = h
 hear-single Dcl r h = h
 hear-single Spe r h = h
 hear-single Spd r h = h
-hear-single (Second s) r h = second-elim Single (r .mark) (ownSecondary s r) r (λ e f. no (cc)) (λ e. no (cc)) (λ e. no (cc)) h
+hear-single (Second s) r h = second-elim Single (r .mark) (ownsSecondary s r) r (λ e f. no (cc)) (λ e. no (cc)) (λ e. no (cc)) h
 hear-single Neither r h = h
 
-pub hear-name : (m : Meaning) (r : Role) → nameOf (hear m r) ≡ nameOf r
+pub hear-name : (m : Meaning) (r : Role) → nameOf (roleHeard m r) ≡ nameOf r
 hear-name Other r = refl
-hear-name (Listen a) r = listen-elim (λ (x : Role). nameOf x ≡ nameOf r) (nameOf r .secondary) (own a r) r refl refl
+hear-name (Listen a) r = listen-elim (λ (x : Role). nameOf x ≡ nameOf r) (nameOf r .secondary) (owns a r) r refl refl
 hear-name Unlisten r = refl
-hear-name (Talk a) r = talk-elim (λ (x : Role). nameOf x ≡ nameOf r) (nameOf r .secondary) (own a r) r refl refl refl
+hear-name (Talk a) r = talk-elim (λ (x : Role). nameOf x ≡ nameOf r) (nameOf r .secondary) (owns a r) r refl refl refl
 hear-name Untalk r = refl
 hear-name Sdc r = refl
 hear-name Get r = refl
@@ -109,7 +109,7 @@ hear-name Tct r = refl
 hear-name Dcl r = refl
 hear-name Spe r = refl
 hear-name Spd r = refl
-hear-name (Second s) r = second-elim (λ (x : Role). nameOf x ≡ nameOf r) (r .mark) (ownSecondary s r) r refl refl refl refl
+hear-name (Second s) r = second-elim (λ (x : Role). nameOf x ≡ nameOf r) (r .mark) (ownsSecondary s r) r refl refl refl refl
 hear-name Neither r = refl
 
 -- talk or listen changed by the host before what stands is heard
@@ -128,11 +128,11 @@ same-mark Spd t l r = refl
 same-mark (Second s) t l r = refl
 same-mark Neither t l r = refl
 
-no-more-talk : (m : Meaning) (t l : Bool) (r : Role) → (t ≡ true → r .talk ≡ true) → hear m (withFlags t l r) .talk ≡ true → hear m r .talk ≡ true
+no-more-talk : (m : Meaning) (t l : Bool) (r : Role) → (t ≡ true → r .talk ≡ true) → roleHeard m (withFlags t l r) .talk ≡ true → roleHeard m r .talk ≡ true
 no-more-talk Other t l r h = h
-no-more-talk (Listen a) t l r h = listen-weak (nameOf r .secondary) (own a r) t l r h
+no-more-talk (Listen a) t l r h = listen-weak (nameOf r .secondary) (owns a r) t l r h
 no-more-talk Unlisten t l r h = h
-no-more-talk (Talk a) t l r h = talk-weak (nameOf r .secondary) (own a r) t l r h
+no-more-talk (Talk a) t l r h = talk-weak (nameOf r .secondary) (owns a r) t l r h
 no-more-talk Untalk t l r h = λ e. e
 no-more-talk Sdc t l r h = h
 no-more-talk Get t l r h = h
@@ -140,14 +140,14 @@ no-more-talk Tct t l r h = h
 no-more-talk Dcl t l r h = h
 no-more-talk Spe t l r h = h
 no-more-talk Spd t l r h = h
-no-more-talk (Second s) t l r h = second-weak (r .mark) (ownSecondary s r) t l r h
+no-more-talk (Second s) t l r h = second-weak (r .mark) (ownsSecondary s r) t l r h
 no-more-talk Neither t l r h = h
 
-pub hear-weak : (m : Meaning) (t l : Bool) (r : Role) → (t ≡ true → r .talk ≡ true) → Weak (hear m r) (hear m (withFlags t l r))
+pub hear-weak : (m : Meaning) (t l : Bool) (r : Role) → (t ≡ true → r .talk ≡ true) → Weak (roleHeard m r) (roleHeard m (withFlags t l r))
 hear-weak m t l r h = weakly (no-more-talk m t l r h) (ap talkPrimary (same-mark m t l r)) (hear-name m (withFlags t l r) ∙ sym (hear-name m r))
 
 -- the command that passes control leaves every talk as it is
-pub hear-passes : (m : Meaning) (r : Role) → passesControl m ≡ true → hear m r .talk ≡ r .talk
+pub hear-passes : (m : Meaning) (r : Role) → passesControl m ≡ true → roleHeard m r .talk ≡ r .talk
 hear-passes Other r h = no (cc)
 hear-passes (Listen a) r h = no (cc)
 hear-passes Unlisten r h = no (cc)
@@ -181,13 +181,13 @@ hear-events P h c t Neither l = h
 -- Every one of n parties with roles w hears m, with ATN true, and has role u then: still at most one talks.
 module _ (atn : Bool) (on : atn ≡ true) (n : ℕ) (w u : ℕ → Role) (D : Apart n w) (A : Addressed atn w) where
   abbrev pub Heard : Meaning → Type 0
-  Heard m = (j : ℕ) → live (u j) ≡ true → (j < n) × (u j ≡ hear m (w j))
+  Heard m = (j : ℕ) → live (u j) ≡ true → (j < n) × (u j ≡ roleHeard m (w j))
 
   module _ (m : Meaning) (H : Heard m) where
-    by-talk : (j : ℕ) → u j .talk ≡ true → (j < n) × (u j ≡ hear m (w j)) × (hear m (w j) .talk ≡ true)
+    by-talk : (j : ℕ) → u j .talk ≡ true → (j < n) × (u j ≡ roleHeard m (w j)) × (roleHeard m (w j) .talk ≡ true)
     by-talk j e = let h = H j (or-left (u j .talk) (marked (u j)) e) in (h .0, h .1, rw (h .1) at e)
 
-    by-mark : (j : ℕ) → marked (u j) ≡ true → (j < n) × (u j ≡ hear m (w j)) × (marked (hear m (w j)) ≡ true)
+    by-mark : (j : ℕ) → marked (u j) ≡ true → (j < n) × (u j ≡ roleHeard m (w j)) × (marked (roleHeard m (w j)) ≡ true)
     by-mark j e = let h = H j (or-right (u j .talk) e) in (h .0, h .1, rw (h .1) at e)
 
     -- who is marked has the name that it had
@@ -198,7 +198,7 @@ module _ (atn : Bool) (on : atn ≡ true) (n : ℕ) (w u : ℕ → Role) (D : Ap
     close i j e f p = ap primaryOf (named i e) ∙ p ∙ sym (ap primaryOf (named j f))
 
     -- a command that turns nobody's talk on, and clears every mark
-    tame : ((r : Role) → hear m r .talk ≡ true → r .talk ≡ true) → ((r : Role) → talkPrimary (markAfter m r) ≡ false) → Addressed atn u
+    tame : ((r : Role) → roleHeard m r .talk ≡ true → r .talk ≡ true) → ((r : Role) → talkPrimary (markAfter m r) ≡ false) → Addressed atn u
     tame f g = record {
       one = λ i j e h. A .one i j (f (w i) (by-talk i e .2)) (f (w j) (by-talk j h .2));
       led = λ i j e h. let z = by-mark i e .2 in let y = g (w i) in no (cc);
@@ -208,17 +208,17 @@ module _ (atn : Bool) (on : atn ≡ true) (n : ℕ) (w u : ℕ → Role) (D : Ap
 
   -- A talk address: the parties of that primary, of whom a plain one talks, and those with a secondary wait.
   module _ (a : Address) (H : Heard (Talk a)) where
-    talks : (i : ℕ) → u i .talk ≡ true → (own a (w i) ≡ true) × (isExtended (nameOf (w i) .secondary) ≡ true → w i .talk ≡ true)
-    talks i e = talk-talk (nameOf (w i) .secondary) (own a (w i)) (w i) (by-talk (Talk a) H i e .2)
+    talks : (i : ℕ) → u i .talk ≡ true → (owns a (w i) ≡ true) × (isExtended (nameOf (w i) .secondary) ≡ true → w i .talk ≡ true)
+    talks i e = talk-talk (nameOf (w i) .secondary) (owns a (w i)) (w i) (by-talk (Talk a) H i e .2)
 
-    waits : (i : ℕ) → marked (u i) ≡ true → own a (w i) ≡ true
-    waits i e = talk-mark (nameOf (w i) .secondary) (own a (w i)) (by-mark (Talk a) H i e .2)
+    waits : (i : ℕ) → marked (u i) ≡ true → owns a (w i) ≡ true
+    waits i e = talk-mark (nameOf (w i) .secondary) (owns a (w i)) (by-mark (Talk a) H i e .2)
 
-    same : (i j : ℕ) → own a (w i) ≡ true → own a (w j) ≡ true → primaryOf (nameOf (w i)) ≡ primaryOf (nameOf (w j))
+    same : (i j : ℕ) → owns a (w i) ≡ true → owns a (w j) ≡ true → primaryOf (nameOf (w i)) ≡ primaryOf (nameOf (w j))
     same i j e f = sym (eqb-true (a .0) (primaryOf (nameOf (w i))) e) ∙ eqb-true (a .0) (primaryOf (nameOf (w j))) f
 
     -- two of that primary are one party, or both have secondaries
-    apart : (i j : ℕ) → i < n → j < n → own a (w i) ≡ true → own a (w j) ≡ true
+    apart : (i j : ℕ) → i < n → j < n → owns a (w i) ≡ true → owns a (w j) ≡ true
         → (i ≡ j) ⊎ ((isExtended (nameOf (w i) .secondary) ≡ true) × (isExtended (nameOf (w j) .secondary) ≡ true))
     apart i j l k e f = test (meets (nameOf (w i) .secondary) (nameOf (w j) .secondary))
         (λ m. inl (D i j l k (same-clash (nameOf (w i)) (nameOf (w j)) (same i j e f) m)))
@@ -238,15 +238,15 @@ module _ (atn : Bool) (on : atn ≡ true) (n : ℕ) (w u : ℕ → Role) (D : Ap
 
         led : (i j : ℕ) → marked (u i) ≡ true → u j .talk ≡ true → (i ≡ j) ⊎ ((isExtended (nameOf (w i) .secondary) ≡ true) × (isExtended (nameOf (w j) .secondary) ≡ true)) → marked (u j) ≡ true
         led i j e f (inl z) = rw z at e
-        led i j e f (inr z) = rw (by-talk (Talk a) H j f .1) (talk-sets (nameOf (w j) .secondary) (own a (w j)) (talks j f .0) (z .1))
+        led i j e f (inr z) = rw (by-talk (Talk a) H j f .1) (talk-sets (nameOf (w j) .secondary) (owns a (w j)) (talks j f .0) (z .1))
 
   -- A secondary: of those who wait it names one, and whoever else waits stops talking.
   module _ (s : SecondaryAddress) (H : Heard (Second s)) where
     abbrev Kept : Role → Type 0
-    Kept r = ((marked r ≡ true) × (ownSecondary s r ≡ true)) ⊎ ((marked r ≡ false) × (r .talk ≡ true))
+    Kept r = ((marked r ≡ true) × (ownsSecondary s r ≡ true)) ⊎ ((marked r ≡ false) × (r .talk ≡ true))
 
     kept : (i : ℕ) → u i .talk ≡ true → Kept (w i)
-    kept i e = second-talk (w i .mark) (ownSecondary s (w i)) (w i) (by-talk (Second s) H i e .2)
+    kept i e = second-talk (w i .mark) (ownsSecondary s (w i)) (w i) (by-talk (Second s) H i e .2)
 
     seconds : Addressed atn u
     seconds = record {
@@ -277,7 +277,7 @@ module _ (atn : Bool) (on : atn ≡ true) (n : ℕ) (w u : ℕ → Role) (D : Ap
 
   pub hear-all : (m : Meaning) → Heard m → Addressed atn u
   hear-all Other H = tame Other H (λ r e. e) (λ r. refl)
-  hear-all (Listen a) H = tame (Listen a) H (λ r. listen-talk (nameOf r .secondary) (own a r) r) (λ r. listen-unmarked (nameOf r .secondary) (own a r))
+  hear-all (Listen a) H = tame (Listen a) H (λ r. listen-talk (nameOf r .secondary) (owns a r) r) (λ r. listen-unmarked (nameOf r .secondary) (owns a r))
   hear-all Unlisten H = tame Unlisten H (λ r e. e) (λ r. refl)
   hear-all (Talk a) H = talked a H
   hear-all Untalk H = tame Untalk H (λ r e. no (cc)) (λ r. refl)

@@ -8,14 +8,14 @@ use Rattle.role.specs.Types.{Address, SecondaryAddress, Meaning, Seconda
 use Rattle.role.specs.Types.ev
 use Rattle.role.specs.Roles.{withFlags, withPollMode, withMark}
 
--- The own primary, and the own secondary, which a party that was built with none has not.
-abbrev pub own : Address → Role → Bool
-own a r = eqb (a .0) (r .name .address .0)
+-- The owns primary, and the owns secondary, which a party that was built with none has not.
+abbrev pub owns : Address → Role → Bool
+owns a r = eqb (a .0) (r .name .address .0)
 
-abbrev pub ownSecondary : SecondaryAddress → Role → Bool
-ownSecondary s r = isGiven s (r .name .secondary)
+abbrev pub ownsSecondary : SecondaryAddress → Role → Bool
+ownsSecondary s r = isGiven s (r .name .secondary)
 
--- The mark that a talk or listen address sets, the own one or not. Document 02, Q-3: "For such a party the own talk (listen) address only sets
+-- The mark that a talk or listen address sets, the owns one or not. Document 02, Q-3: "For such a party the owns talk (listen) address only sets
 -- "talk primary" ("listen primary")."
 abbrev pub markOf : Secondary → Bool → Mark → Mark
 markOf Absent mine m = Unmarked
@@ -25,9 +25,9 @@ markOf (Given s) mine m = cond mine m Unmarked
 -- primary command clears both": the mark outlasts a secondary, and 7F.
 abbrev pub markAfter : Meaning → Role → Mark
 markAfter Other r = Unmarked
-markAfter (Listen a) r = markOf (r .name .secondary) (own a r) ListenPrimary
+markAfter (Listen a) r = markOf (r .name .secondary) (owns a r) ListenPrimary
 markAfter Unlisten r = Unmarked
-markAfter (Talk a) r = markOf (r .name .secondary) (own a r) TalkPrimary
+markAfter (Talk a) r = markOf (r .name .secondary) (owns a r) TalkPrimary
 markAfter Untalk r = Unmarked
 markAfter Sdc r = Unmarked
 markAfter Get r = Unmarked
@@ -38,8 +38,8 @@ markAfter Spd r = Unmarked
 markAfter (Second s) r = r .mark
 markAfter Neither r = r .mark
 
--- A primary address, the own one or not: "Own listen address: listen on, talk off." "Own talk address: talk on, listen off. Another talk address ..:
--- talk off." With a secondary the own one leaves both alone.
+-- A primary address, the owns one or not: "Own listen address: listen on, talk off." "Own talk address: talk on, listen off. Another talk address ..:
+-- talk off." With a secondary the owns one leaves both alone.
 abbrev pub listenAddressed : Secondary → Bool → Role → Role
 listenAddressed Absent mine r = cond mine (withFlags false true r) r
 listenAddressed (Given s) mine r = r
@@ -48,7 +48,7 @@ abbrev pub talkAddressed : Secondary → Bool → Role → Role
 talkAddressed Absent mine r = cond mine (withFlags true false r) (withFlags false (r .listen) r)
 talkAddressed (Given s) mine r = cond mine r (withFlags false (r .listen) r)
 
--- A secondary, the own one or not: "The own secondary (60 + secondary) while talk primary turns talk on and listen off; while listen primary it turns
+-- A secondary, the owns one or not: "The owns secondary (60 + secondary) while talk primary turns talk on and listen off; while listen primary it turns
 -- listen on and talk off. Any other secondary while talk primary turns talk off."
 abbrev pub seconded : Mark → Bool → Role → Role
 seconded Unmarked mine r = r
@@ -58,9 +58,9 @@ seconded ListenPrimary mine r = cond mine (withFlags false true r) r
 -- The flags that hearing leaves. "UNL: listen off." ".. or UNT: talk off. SPE, SPD: poll mode on, off." "TCT does nothing when heard".
 abbrev pub addressed : Meaning → Role → Role
 addressed Other r = r
-addressed (Listen a) r = listenAddressed (r .name .secondary) (own a r) r
+addressed (Listen a) r = listenAddressed (r .name .secondary) (owns a r) r
 addressed Unlisten r = withFlags (r .talk) false r
-addressed (Talk a) r = talkAddressed (r .name .secondary) (own a r) r
+addressed (Talk a) r = talkAddressed (r .name .secondary) (owns a r) r
 addressed Untalk r = withFlags false (r .listen) r
 addressed Sdc r = r
 addressed Get r = r
@@ -68,12 +68,12 @@ addressed Tct r = r
 addressed Dcl r = r
 addressed Spe r = withPollMode true r
 addressed Spd r = withPollMode false r
-addressed (Second s) r = seconded (r .mark) (ownSecondary s r) r
+addressed (Second s) r = seconded (r .mark) (ownsSecondary s r) r
 addressed Neither r = r
 
 -- The role that hearing leaves.
-abbrev pub hear : Meaning → Role → Role
-hear m r = withMark (markAfter m r) (addressed m r)
+abbrev pub roleHeard : Meaning → Role → Role
+roleHeard m r = withMark (markAfter m r) (addressed m r)
 
 -- The event of who hears, listening or not. "DCL, or SDC while listening: event clear. GET while listening: event trigger."
 abbrev pub hearEvent : Meaning → Bool → Event

@@ -1,6 +1,6 @@
 // Addressing: what the own primary and a secondary do to who hears them.
 ghost use mathlib.Core.Path.{_≡_};
-ghost use Rattle.role.specs.Hearing.{own, ownSecondary, markOf, listenAddressed, talkAddressed, seconded};
+ghost use Rattle.role.specs.Hearing.{owns, ownsSecondary, markOf, listenAddressed, talkAddressed, seconded};
 use crate::Mark;
 use crate::Role;
 use message::Address;
@@ -19,7 +19,7 @@ pub(crate) fn mark_of(secondary: Secondary, mine: bool, mark: Mark) -> Mark
 
 impl Role {
     pub(crate) fn owns(self, a: Address) -> bool
-        ensures { λ r. ⌜ r ≡ own a self ⌝ }
+        ensures { λ r. ⌜ r ≡ owns a self ⌝ }
     {
         let name = self.name;
         let mine = name.address;
@@ -27,7 +27,7 @@ impl Role {
     }
 
     pub(crate) fn owns_secondary(self, s: SecondaryAddress) -> bool
-        ensures { λ r. ⌜ r ≡ ownSecondary s self ⌝ }
+        ensures { λ r. ⌜ r ≡ ownsSecondary s self ⌝ }
     {
         let name = self.name;
         let mine = name.secondary;

@@ -1,6 +1,6 @@
 // Hearing: what a command does to who hears it.
 ghost use mathlib.Core.Path.{_≡_};
-ghost use Rattle.role.specs.Hearing.{markAfter, addressed, hear, hearEvent, passesControl};
+ghost use Rattle.role.specs.Hearing.{markAfter, addressed, roleHeard, hearEvent, passesControl};
 use crate::Mark;
 use crate::Role;
 use crate::addressing::mark_of;
@@ -57,7 +57,7 @@ impl Role {
 
     // The role of who has heard a command.
     pub fn heard(self, m: Meaning) -> Role
-        ensures { λ r. ⌜ r ≡ hear m self ⌝ }
+        ensures { λ r. ⌜ r ≡ roleHeard m self ⌝ }
     {
         self.addressed(m).with_mark(self.mark_after(m))
     }

@@ -14,7 +14,7 @@ use orders::order_of;
 use party::Place;
 use reader::Next;
 
-fn answer(b: Bus, next: Next) -> Answer
+fn answer_to(b: Bus, next: Next) -> Answer
     ensures { λ r. ⌜ r ≡ answerTo b next ⌝ }
 {
     match next {
@@ -30,7 +30,7 @@ fn answer(b: Bus, next: Next) -> Answer
 }
 
 // The place after a record; what is bad ends the script.
-fn after(next: Next, at: usize, len: usize) -> usize
+fn after_of(next: Next, at: usize, len: usize) -> usize
     requires { ⌜ at + 6 < 2 ^ 64 ⌝ }
     ensures { λ r. ⌜ r ≡ afterOf next at len ⌝ }
 {
@@ -58,10 +58,10 @@ fn run_all(script: &[u8], out: &mut [u8]) -> usize
     let mut place = 0;
     while at < script.len() {
         let next = reader::record(script, at);
-        let a = answer(bus, next);
+        let a = answer_to(bus, next);
         place = text::put_line(n, a, out, place);
         bus = a.bus;
-        at = after(next, at, script.len());
+        at = after_of(next, at, script.len());
         n += 1;
     }
     place

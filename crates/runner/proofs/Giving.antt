@@ -1,4 +1,4 @@
--- The loop of the runner: how far it has come.
+-- The loop of the giveTurns: how far it has come.
 -- Assumes nothing.
 use mathlib.Core.Path.{_≡_, refl, sym, ap, _∙_}
 use mathlib.Core.List.{List, [], _∷_, _++_}
@@ -17,7 +17,7 @@ use Rattle.runner.specs.Types.{Bus, Answer, Given}
 use Rattle.runner.specs.Types.ruling
 use Rattle.runner.specs.Waiting.{byPlace, turns}
 use Rattle.turn_laws.specs.Steps.{stepOf, steps}
-use Rattle.runner.specs.Runner.{counted, runner}
+use Rattle.runner.specs.Runner.{counted, giveTurns}
 use Rattle.runner.proofs.Queue.{wait-zero}
 use Rattle.runner.proofs.InOrder.{place-orders, round-robin, turn-by-place}
 use Rattle.runner.proofs.Lists.{run-append, steps-append}
@@ -70,7 +70,7 @@ again {b} {n} {T} {counts} {after} {t} G l {k} f {a} e = record {
 
 -- all turns are given
 pub ends : {b : Bus} {T : ℕ} {counts : List ℕ} {after : Bus} {t n : ℕ} → Going b n T counts after t → T ≤ t → n ≡ within (b .count) → (b .count ≡ 0 → ⊥)
-    → _≡_ {A = Given} (record { refusal = ruling.Accepted; counts = counts; bus = after }) (runner byPlace b T)
+    → _≡_ {A = Given} (record { refusal = ruling.Accepted; counts = counts; bus = after }) (giveTurns byPlace b T)
 ends {b} {T} {counts} {after} {t} {n} G l e ne = rw (ne-eqb (b .count) 0 ne, ← e) (cc (G .bus ∙ ap (λ (ys : List ℕ). m.run b (steps ys)) whole, G .tally ∙ ap (counted (replicate 15 0)) whole))
   where
     whole : take t (turns byPlace n T) ≡ turns byPlace n T

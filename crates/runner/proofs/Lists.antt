@@ -8,7 +8,7 @@ use Rattle.bus.specs.Machine as m
 use Rattle.bus.proofs.Theorem.{delivery}
 use Rattle.runner.specs.Types.{Bus, Call}
 use Rattle.turn_laws.specs.Steps.{stepOf, steps}
-use Rattle.runner.specs.Runner.{turnsOf, runner}
+use Rattle.runner.specs.Runner.{turnsOf, giveTurns}
 use Rattle.runner.specs.Lists.{call, run, expanded, StandsForSteps, DeliveryWithRuns}
 
 pub run-append : (b : Bus) (cs ds : List Call) → m.run b (cs ++ ds) ≡ m.run (m.run b cs) ds
@@ -23,7 +23,7 @@ pub stands-for-steps : StandsForSteps
 stands-for-steps tie b [] = refl
 stands-for-steps tie b (call c ∷ xs) = stands-for-steps tie (m.call b c .bus) xs
 stands-for-steps tie b (run t ∷ xs) =
-    let c = runner (tie b) b t .bus in
+    let c = giveTurns (tie b) b t .bus in
     stands-for-steps tie c xs ∙ sym (run-append b (steps (turnsOf (tie b) b t)) (expanded tie c xs))
 
 pub delivery-with-runs : DeliveryWithRuns

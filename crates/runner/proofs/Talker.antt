@@ -20,7 +20,7 @@ use Rattle.effect.specs.Stands.{stands}
 use Rattle.effect.specs.Effects.{say, does, stay}
 use Rattle.source_step.specs.SourceStep.{put, noacc, ended, sourceStep}
 use Rattle.bus.specs.Record.{here, lines}
-use Rattle.bus.specs.Following.{touch, follow}
+use Rattle.bus.specs.Following.{settle, follow}
 use Rattle.bus.specs.Machine as m
 use Rattle.bus.specs.Delivery.{isPut, isEnd}
 use Rattle.bus.proofs.Invariant.{Inv, atnOf, quiet}
@@ -247,7 +247,7 @@ module _ (n p w v : ℕ) (e : Bool) where
         src = ap (λ (y : Party). y .source) own ∙ es
 
     -- a step that changes the talker while nothing stands
-    touched : (s : Said) (q : Party) → touch (atnOf b) b p (does s q (b .standing)) ≡ local b p s q (b .standing)
+    touched : (s : Said) (q : Party) → settle (atnOf b) b p (does s q (b .standing)) ≡ local b p s q (b .standing)
     touched s q = touch-local b (B .inv) p (inn b B) s q (b .standing) (rw (O .none) refl)
 
     offered : offer (isPolled (atnOf b) P) P ≡ Full v e

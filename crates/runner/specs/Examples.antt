@@ -1,4 +1,4 @@
--- Worked examples of the runner, computed from the definitions.
+-- Worked examples of the giveTurns, computed from the definitions.
 -- Assumes nothing.
 use Prim.Native.Nat.{ℕ}
 use mathlib.Core.Path.{_≡_}
@@ -19,7 +19,7 @@ use Rattle.runner.specs.Types.call-of
 use Rattle.runner.specs.Types.act-of
 use Rattle.runner.specs.Waiting.{byPlace, longestWaiting, turns}
 use Rattle.turn_laws.specs.Steps.{steps}
-use Rattle.runner.specs.Runner.{turnsOf, runner}
+use Rattle.runner.specs.Runner.{turnsOf, giveTurns}
 use Rattle.runner.specs.Bound.{Offered}
 use Rattle.runner.specs.Lists.{Act, call, run, acted}
 
@@ -49,11 +49,11 @@ pub record Examples : Type 0 where
   -- with ties to the highest place
   pub fromTheTop : turns (λ x y. ltb y x) 3 7 ≡ (2 ∷ 1 ∷ 0 ∷ 2 ∷ 1 ∷ 0 ∷ 2 ∷ [])
   -- document 01's script with its seven steps as a run of seven turns: the byte has ended, and 41 is read
-  pub script : runner byPlace (after before) 7 .counts ≡ (4 ∷ 3 ∷ replicate 13 0)
-  pub scriptEnds : reported (m.call (runner byPlace (after before) 7 .bus) (call-of.Of (place 1) act-of.Read)) ≡ 41-is-read
+  pub script : giveTurns byPlace (after before) 7 .counts ≡ (4 ∷ 3 ∷ replicate 13 0)
+  pub scriptEnds : reported (m.call (giveTurns byPlace (after before) 7 .bus) (call-of.Of (place 1) act-of.Read)) ≡ 41-is-read
   -- five times n turns are not always enough to end a byte: here the bound's premises hold, n is 2, and the eleventh turn ends it
   pub premises : Offered (after slow) 0 1 65 true
   pub notInFiveRounds : ended slow 10 ≡ 0
   pub inOneTurnMore : ended slow 11 ≡ 1
   -- "a bus of no parties is refused with 1, all counts 0"
-  pub nobody : runner byPlace noParties 65535 ≡ record { refusal = ruling.NoParty; counts = replicate 15 0; bus = noParties }
+  pub nobody : giveTurns byPlace noParties 65535 ≡ record { refusal = ruling.NoParty; counts = replicate 15 0; bus = noParties }

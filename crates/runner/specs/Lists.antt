@@ -10,7 +10,7 @@ use Rattle.runner.specs.Types.{Place, Name, Bus, Call}
 use Rattle.runner.specs.Types.ruling
 use Rattle.runner.specs.Waiting.{TieOrder}
 use Rattle.turn_laws.specs.Steps.{steps}
-use Rattle.runner.specs.Runner.{turnsOf, runner}
+use Rattle.runner.specs.Runner.{turnsOf, giveTurns}
 
 -- What a host does: a call, or a run of so many turns.
 pub data Act : Type 0 where
@@ -23,13 +23,13 @@ module _ (tie : Bus → TieOrder) where
   abbrev pub acted : Bus → List Act → Bus
   acted b [] = b
   acted b (call c ∷ xs) = acted (m.call b c .bus) xs
-  acted b (run t ∷ xs) = acted (runner (tie b) b t .bus) xs
+  acted b (run t ∷ xs) = acted (giveTurns (tie b) b t .bus) xs
 
   -- The list with each run replaced by its steps.
   abbrev pub expanded : Bus → List Act → List Call
   expanded b [] = []
   expanded b (call c ∷ xs) = c ∷ expanded (m.call b c .bus) xs
-  expanded b (run t ∷ xs) = steps (turnsOf (tie b) b t) ++ expanded (runner (tie b) b t .bus) xs
+  expanded b (run t ∷ xs) = steps (turnsOf (tie b) b t) ++ expanded (giveTurns (tie b) b t .bus) xs
 
 -- A list with runs leads to the bus that the list of its steps leads to.
 abbrev pub StandsForSteps : Type 0

@@ -32,8 +32,8 @@ abbrev pub refusalOf : Bus → Refusal
 refusalOf b = cond (eqb (b .count) 0) ruling.NoParty ruling.Accepted
 
 -- The whole answer of a run, and the bus after it. The refused run has no turns: its bus is unchanged, and its counts are all 0.
-abbrev pub runner : TieOrder → Bus → ℕ → Given
-runner tie b t = record {
+abbrev pub giveTurns : TieOrder → Bus → ℕ → Given
+giveTurns tie b t = record {
   refusal = refusalOf b;
   counts = counted (replicate 15 0) (turnsOf tie b t);
   bus = m.run b (steps (turnsOf tie b t));
@@ -46,4 +46,4 @@ isStepOf k call-of.Lines = false
 isStepOf k call-of.Drivers = false
 
 abbrev pub Counts : Type 0
-Counts = (tie : TieOrder) (b : Bus) (t k : ℕ) → k < 15 → getD (runner tie b t .counts) k 0 ≡ tally (λ x. one (isStepOf k (x .call))) (history b (steps (turnsOf tie b t)))
+Counts = (tie : TieOrder) (b : Bus) (t k : ℕ) → k < 15 → getD (giveTurns tie b t .counts) k 0 ≡ tally (λ x. one (isStepOf k (x .call))) (history b (steps (turnsOf tie b t)))

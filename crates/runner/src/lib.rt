@@ -2,10 +2,10 @@
 ghost use mathlib.Core.Path.{_≡_};
 ghost use Prim.Native.Nat.{_%_, _<_};
 ghost use Rattle.runner.specs.Waiting.{byPlace};
-ghost use Rattle.runner.specs.Runner.{runner};
+ghost use Rattle.runner.specs.Runner.{giveTurns};
 use bus::Bus;
 use effect::Refusal;
-use parties::every::within_places;
+use parties::every::within;
 use party::Place;
 
 // What a run answers: how many turns each place had, and the bus after them.
@@ -25,7 +25,7 @@ fn place_of_turn(t: u16, n: usize) -> usize
 
 // Steps the party that has waited longest, ties to the lowest place, until it has given so many turns.
 pub fn give_turns(bus: Bus, turns: u16) -> Given
-    ensures { λ r. ⌜ r ≡ runner byPlace bus turns ⌝ }
+    ensures { λ r. ⌜ r ≡ giveTurns byPlace bus turns ⌝ }
 {
     let mut counts = [0u16; 15];
     if bus.count == 0 {
@@ -35,7 +35,7 @@ pub fn give_turns(bus: Bus, turns: u16) -> Given
             bus,
         };
     }
-    let n = within_places(bus.count);
+    let n = within(bus.count);
     let mut after = bus;
     let mut t: u16 = 0;
     while t < turns {

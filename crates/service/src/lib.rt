@@ -31,7 +31,7 @@ impl Service {
     }
 
     // What is left of the second request bit once a status byte is put in this state.
-    fn keeps_rsv2(self, rsv2: bool) -> bool
+    fn rsv2_kept(self, rsv2: bool) -> bool
         ensures { λ r. ⌜ r ≡ rsv2Kept self rsv2 ⌝ }
     {
         match self {
@@ -154,6 +154,6 @@ impl Request {
         ensures { λ r. ⌜ r ≡ reported self ⌝ }
     {
         let service = self.service;
-        self.with_rsv2(service.keeps_rsv2(self.rsv2))
+        self.with_rsv2(service.rsv2_kept(self.rsv2))
     }
 }

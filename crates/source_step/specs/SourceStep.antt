@@ -2,12 +2,12 @@
 -- Assumes nothing.
 use Prim.Native.Nat.{ℕ}
 use mathlib.Core.Bool.{Bool, cond}
-use Rattle.message.specs.Meaning.{meaning}
+use Rattle.message.specs.Meaning.{meaningOf}
 use Rattle.role.specs.Hearing.{passesControl}
 use Rattle.offer.specs.Offer.{isFull, kindOf, endOf, putEvent}
 use Rattle.party.specs.Parts.{withSource}
 use Rattle.party.specs.Driving.{isActive}
-use Rattle.party.specs.Hearing.{heardBy}
+use Rattle.party.specs.Hearing.{partyHeard}
 use Rattle.party.specs.Sending.{isPolled, offer, parted}
 use Rattle.source_step.specs.Types.{Source, Sids, Sgns, Sdys, Strs, Slot, Empty, Full, Kind}
 use Rattle.source_step.specs.Types.{Found, Nowhere, At, Standing, Nothing, Byte, After, Effect, View}
@@ -39,8 +39,8 @@ passTo passes (At j) = cond passes (after.Pass j) after.Settle
 abbrev pub endedByte : Kind → ℕ → Bool → View → Effect
 endedByte k x e v = record {
   said = say ev.Ended x e 0;
-  after = cond (ofCommand k) (passTo (passesControl (meaning x)) (v .talker)) after.Settle;
-  party = withSource Sgns (cond (ofCommand k) (heardBy x (v .party)) (v .party));
+  after = cond (ofCommand k) (passTo (passesControl (meaningOf x)) (v .talker)) after.Settle;
+  party = withSource Sgns (cond (ofCommand k) (partyHeard x (v .party)) (v .party));
   standing = Nothing;
 }
 

@@ -24,7 +24,7 @@ use Rattle.acceptor_step.specs.AcceptorStep.{takes, acceptorIn, acceptorStep}
 use Rattle.accepted.specs.Accepted.{step}
 use Rattle.bus.specs.Record.{here, lines, refuse}
 use Rattle.bus.specs.Settling.{answered, deserted}
-use Rattle.bus.specs.Following.{touch, follow}
+use Rattle.bus.specs.Following.{settle, follow}
 use Rattle.bus.specs.Machine as m
 use Rattle.bus.proofs.Invariant.{Inv, atnOf}
 use Rattle.bus.proofs.EachCall.{call-good}
@@ -50,7 +50,7 @@ module _ (b : Bus) (I : Inv b) (i : ℕ) (l : i < b .count) where
   room : i < length (b .parties)
   room = let z = I .size in let s = I .small in omega arith
 
-  pub touch-local : (s : Said) (q : Party) (st : Standing) → deserted (atnOf b) (set (b .parties) i q) st ≡ false → touch (atnOf b) b i (does s q st) ≡ local b i s q st
+  pub touch-local : (s : Said) (q : Party) (st : Standing) → deserted (atnOf b) (set (b .parties) i q) st ≡ false → settle (atnOf b) b i (does s q st) ≡ local b i s q st
   touch-local s q st ok = rw (ok, each-set (b .count) (settled (atnOf b)) (b .parties) i q l (I .still)) refl
 
   pub set-here : (q : Party) → at (set (b .parties) i q) i ≡ q

@@ -5,7 +5,7 @@ use mathlib.Core.Bool.{Bool, not, _||_}
 use mathlib.Core.List.{List, [], _∷_}
 use Prim.Native.Nat.{ℕ}
 use lib.ListN.{getD, set}
-use Rattle.message.specs.Meaning.{address, meaning}
+use Rattle.message.specs.Meaning.{address, meaningOf}
 use Rattle.names.specs.Names.{plain}
 use Rattle.role.proofs.Logic.{no, cond-elim}
 use Rattle.role.proofs.Roles.{hear-name}
@@ -52,7 +52,7 @@ module _ (v : View) where
 
   ended-same : (st : Standing) → Same (ended st v)
   ended-same Nothing = refl
-  ended-same (Byte s k x e) = cond-elim (λ (q : Party). nameOf q ≡ nameOf (v .party)) (ofCommand k) (λ _. hear-name (meaning x) (v .party .role)) (λ _. refl)
+  ended-same (Byte s k x e) = cond-elim (λ (q : Party). nameOf q ≡ nameOf (v .party)) (ofCommand k) (λ _. hear-name (meaningOf x) (v .party .role)) (λ _. refl)
 
   source-same : (s : Source) (o : Slot) (k : Kind) → Same (sourceIn s o k v)
   source-same Sids o k = refl
@@ -62,7 +62,7 @@ module _ (v : View) where
 
   takes-same : (st : Standing) → Same (takes st v)
   takes-same Nothing = refl
-  takes-same (Byte s k x e) = cond-elim Same (v .lines .atn) (λ _. hear-name (meaning x) (v .party .role)) (λ _. refl)
+  takes-same (Byte s k x e) = cond-elim Same (v .lines .atn) (λ _. hear-name (meaningOf x) (v .party .role)) (λ _. refl)
 
   acceptor-same : (a : Acceptor) → Same (acceptorIn a v)
   acceptor-same Aids = refl

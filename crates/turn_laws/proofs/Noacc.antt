@@ -7,7 +7,7 @@ use Prim.Native.Nat.{ℕ, _<_}
 use lib.Dec.{ltb}
 use lib.Seq.{set-getD}
 use borrow.Author.Tests.{ltb-true}
-use Rattle.message.specs.Meaning.{meaning}
+use Rattle.message.specs.Meaning.{meaningOf}
 use Rattle.offer.specs.Offer.{isFull, kindOf, endOf}
 use Rattle.role.proofs.Logic.{no, test, cond-elim}
 use Rattle.role.proofs.Roles.{hear-events}
@@ -51,7 +51,7 @@ module _ (v : View) where
   takes-else : (st : Standing) → Else (takes st v)
   takes-else Nothing = λ h. no (cc)
   takes-else (Byte s k x e) = cond-elim Else (v .lines .atn)
-      (λ _. hear-events (λ (y : Event). y ≡ ev.Noacc → ⊥) (λ h. no (cc)) (λ h. no (cc)) (λ h. no (cc)) (meaning x) (v .party .role .listen))
+      (λ _. hear-events (λ (y : Event). y ≡ ev.Noacc → ⊥) (λ h. no (cc)) (λ h. no (cc)) (λ h. no (cc)) (meaningOf x) (v .party .role .listen))
       (λ _ h. no (cc))
 
   acceptor-else : (a : Acceptor) → Else (acceptorIn a v)

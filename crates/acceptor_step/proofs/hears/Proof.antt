@@ -6,9 +6,9 @@ returns : tie.Need-returns
 returns c =
     simp (
       c .does .ensures,
-      c .before .say .ensures,
-      c .before .before .with-acceptor .ensures,
-      c .before .before .before .heard .ensures,
+      c .before .with-acceptor .ensures,
+      c .before .before .heard .ensures,
+      c .before .before .before .say .ensures,
       c .before .before .before .before .hear-event .ensures,
       c .before .before .before .before .before .meaning-of .ensures,
     )

@@ -6,7 +6,7 @@ use native.Mathlib.Omega.{arith}
 use lib.ListN.{length, drop}
 use borrow.Author.Needs.{needs}
 use Rattle.message.specs.Meaning.{address}
-use Rattle.names.specs.Names.{plain, over30}
+use Rattle.names.specs.Names.{plain, isOver30}
 use Rattle.addresses.specs.Addresses.{names, anyOver30}
 use Rattle.addresses.proofs.Scans.{names-length, scan-turn, scan-done}
 use Rattle.addresses.proofs.any_over_30.Statement.{statement}
@@ -42,8 +42,8 @@ loop-again c =
     let a = b .before .before .before .args in
     let l = names (a .addresses .now) (a .secondaries .now) in
     let z = names-length (a .addresses .now) (a .secondaries .now) in
-    scan-turn anyOver30 (λ x xs. over30 x) refl (λ x xs. refl) l (b .loop .i) (b .loop .found) (anyOver30 l) (b .loop .inv) (plain (address 0)) (c .or .result) (omega arith)
-    (c .or .ensures ∙ ap (λ x. b .loop .found || x) (c .before .is-over-30 .ensures ∙ ap over30 (c .before .before .name-at .ensures)))
+    scan-turn anyOver30 (λ x xs. isOver30 x) refl (λ x xs. refl) l (b .loop .i) (b .loop .found) (anyOver30 l) (b .loop .inv) (plain (address 0)) (c .or .result) (omega arith)
+    (c .or .ensures ∙ ap (λ x. b .loop .found || x) (c .before .is-over-30 .ensures ∙ ap isOver30 (c .before .before .name-at .ensures)))
 
 returns : tie.Need-returns Inv-loop μ-loop
 returns c =
@@ -51,7 +51,7 @@ returns c =
     let a = b .before .before .before .args in
     let l = names (a .addresses .now) (a .secondaries .now) in
     let z = names-length (a .addresses .now) (a .secondaries .now) in
-    scan-done anyOver30 (λ x xs. over30 x) refl (λ x xs. refl) l (b .loop .i) (b .loop .found) (anyOver30 l) (b .loop .inv) (omega arith)
+    scan-done anyOver30 (λ x xs. isOver30 x) refl (λ x xs. refl) l (b .loop .i) (b .loop .found) (anyOver30 l) (b .loop .inv) (omega arith)
 
 pub any-over-30-spec : {M : Type 1} → statement M
 any-over-30-spec =

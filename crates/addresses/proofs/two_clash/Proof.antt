@@ -28,8 +28,8 @@ name-at-requires c κs = search needs
 add-i : tie.Need-add-i Inv-loop μ-loop
 add-i c = search needs
 
-clashes-from-requires : tie.Need-clashes-from-requires Inv-loop μ-loop
-clashes-from-requires c κs = search needs
+clashes-with-requires : tie.Need-clashes-with-requires Inv-loop μ-loop
+clashes-with-requires c κs = search needs
 
 or-requires : tie.Need-or-requires Inv-loop μ-loop
 or-requires c κs = search needs
@@ -44,7 +44,7 @@ loop-again c =
     let l = names (a .addresses .now) (a .secondaries .now) in
     let z = names-length (a .addresses .now) (a .secondaries .now) in
     scan-turn twoClash clashesWith refl (λ x xs. refl) l (b .loop .i) (b .loop .found) (twoClash l) (b .loop .inv) (plain (address 0)) (c .or .result) (omega arith)
-    (c .or .ensures ∙ ap (λ x. b .loop .found || x) (c .before .clashes-from .ensures ∙ ap (λ (x : Name). clashesWith x (drop (b .loop .i + 1) l)) (c .before .before .name-at .ensures)))
+    (c .or .ensures ∙ ap (λ x. b .loop .found || x) (c .before .clashes-with .ensures ∙ ap (λ (x : Name). clashesWith x (drop (b .loop .i + 1) l)) (c .before .before .name-at .ensures)))
 
 returns : tie.Need-returns Inv-loop μ-loop
 returns c =
@@ -57,4 +57,4 @@ returns c =
 pub two-clash-spec : {M : Type 1} → statement M
 two-clash-spec =
     tie.close
-    (tie.spec Inv-loop μ-loop loop-holds name-at-requires add-i clashes-from-requires or-requires loop-less loop-again returns)
+    (tie.spec Inv-loop μ-loop loop-holds name-at-requires add-i clashes-with-requires or-requires loop-less loop-again returns)

@@ -25,14 +25,14 @@ returns-2 c =
 
 slice-aggregate-build-3 : tie.Need-slice-aggregate-build-3
 slice-aggregate-build-3 c =
-    sym (length-take-le _ _ (omega (arith, ap length (c .before .addresses .ensures) ∙ length-up 15 _)))
+    sym (length-take-le _ _ (omega (arith, ap length (c .before .count-up .ensures) ∙ length-up 15 _)))
 
 returns-3 : tie.Need-returns-3
 unfolding buildFrom
 returns-3 c =
     let a = c .before .before in
     let s = a .before .before .before in
-    c .build3 .ensures ∙ ap (λ (l : List ℕ). build l (s .args .system)) (ap (take (s .args .n)) (a .addresses .ensures) ∙ take-up (s .args .n) 15 (s .args .first) (omega arith))
+    c .build3 .ensures ∙ ap (λ (l : List ℕ). build l (s .args .system)) (ap (take (s .args .n)) (a .count-up .ensures) ∙ take-up (s .args .n) 15 (s .args .first) (omega arith))
 
 pub build-from-spec : {M : Type 1} → statement M
 build-from-spec =

@@ -32,14 +32,14 @@ loop-holds c =
 record-requires : tie.Need-record-requires Inv-loop μ-loop
 record-requires c κs = search needs
 
-answer-requires : tie.Need-answer-requires Inv-loop μ-loop
-answer-requires c κs = search needs
+answer-to-requires : tie.Need-answer-to-requires Inv-loop μ-loop
+answer-to-requires c κs = search needs
 
 put-line-requires : tie.Need-put-line-requires Inv-loop μ-loop
 put-line-requires c κs = search needs
 
-after-requires : tie.Need-after-requires Inv-loop μ-loop
-after-requires c κs = omega arith
+after-of-requires : tie.Need-after-of-requires Inv-loop μ-loop
+after-of-requires c κs = omega arith
 
 add-n : tie.Need-add-n Inv-loop μ-loop
 add-n c = search needs
@@ -49,7 +49,7 @@ loop-less c =
     let a = c .before .before .before .before .before .before in
     let l = a .before .before .before in
     let s = l .before .before .before .before .before .before .args .script .now in
-    let e : c .after .result ≡ next s (l .loop .at) = c .after .ensures ∙ ap (λ (r : Next). afterOf r (l .loop .at) (length s)) (a .before .«record» .ensures) in
+    let e : c .after-of .result ≡ next s (l .loop .at) = c .after-of .ensures ∙ ap (λ (r : Next). afterOf r (l .loop .at) (length s)) (a .before .«record» .ensures) in
     let t = turn s (l .loop .at) (a .before .before .loop-test .taken) in
     omega (arith, t .further, t .within, e)
 
@@ -59,10 +59,10 @@ loop-again c =
     let a = p .before .before in
     let l = a .before .before .before in
     let s = l .before .before .before .before .before .before .args .script .now in
-    again (l .loop .inv) (a .answer .result) (a .before .before .loop-test .taken)
-    (a .answer .ensures ∙ ap (answerTo (l .loop .bus)) (a .before .«record» .ensures))
+    again (l .loop .inv) (a .answer-to .result) (a .before .before .loop-test .taken)
+    (a .answer-to .ensures ∙ ap (answerTo (l .loop .bus)) (a .before .«record» .ensures))
     (p .put-line .ensures .written (fits (l .loop .inv) (a .before .before .loop-test .taken))) refl
-    (c .after .ensures ∙ ap (λ (r : Next). afterOf r (l .loop .at) (length s)) (a .before .«record» .ensures))
+    (c .after-of .ensures ∙ ap (λ (r : Next). afterOf r (l .loop .at) (length s)) (a .before .«record» .ensures))
 
 same-length : tie.Need-same-length Inv-loop μ-loop
 same-length c = same-size (c .before .loop .inv .wrote)
@@ -80,9 +80,9 @@ run-all-spec =
     build-requires
     loop-holds
     record-requires
-    answer-requires
+    answer-to-requires
     put-line-requires
-    after-requires
+    after-of-requires
     add-n
     loop-less
     loop-again

@@ -17,11 +17,11 @@ abbrev μ-loop : tie.MeasureT-loop
 returns : tie.Need-returns Inv-loop μ-loop
 returns c = rw (eq-eqb _ _ (c .if1 .taken)) refl
 
-within-places-requires : tie.Need-within-places-requires Inv-loop μ-loop
-within-places-requires c κs = search needs
+within-requires : tie.Need-within-requires Inv-loop μ-loop
+within-requires c κs = search needs
 
 loop-holds : tie.Need-loop-holds Inv-loop μ-loop
-loop-holds c = start _ _ _ (rw (c .within-places .ensures .0) (some-within _ (c .before .if1 .left))) (c .within-places .ensures .1)
+loop-holds c = start _ _ _ (rw (c .within .ensures .0) (some-within _ (c .before .if1 .left))) (c .within .ensures .1)
 
 place-of-turn-requires : tie.Need-place-of-turn-requires Inv-loop μ-loop
 place-of-turn-requires c κs = c .before .loop .inv .some
@@ -57,7 +57,7 @@ loop-again : tie.Need-loop-again Inv-loop μ-loop
 loop-again c = again (c .before .before .before .before .loop .inv) (c .before .before .before .loop-test .taken) (c .before .before .place-of-turn .ensures) (c .before .step .ensures)
 
 returns-2 : tie.Need-returns-2 Inv-loop μ-loop
-returns-2 c = ends (c .before .loop .inv) (c .loop-test .left) (c .before .before .within-places .ensures .0) (c .before .before .before .if1 .left)
+returns-2 c = ends (c .before .loop .inv) (c .loop-test .left) (c .before .before .within .ensures .0) (c .before .before .before .if1 .left)
 
 pub give-turns-spec : {M : Type 1} → statement M
 give-turns-spec =
@@ -66,7 +66,7 @@ give-turns-spec =
     Inv-loop
     μ-loop
     returns
-    within-places-requires
+    within-requires
     loop-holds
     place-of-turn-requires
     cast-t14

@@ -16,13 +16,13 @@ returns c =
     let atn = c .before .before .before .before .before .is-on .result in
     let z : length (a .ps) ≡ 15 = search (needs, length-of-map) in
     rw (
-      c .answer .ensures,
+      c .answered .ensures,
       c .before .unless .ensures,
       c .before .before .stands .ensures,
       c .before .before .before .before .change-all .ensures,
       each-each (a .self .count) (settled atn) (attended atn) (a .ps),
       c .before .before .before .before .before .is-on .ensures,
-      s .sweep .ensures,
+      s .sweep-of .ensures,
       line-on (a .self .count) (a .ps) z isActive,
     ) refl
 

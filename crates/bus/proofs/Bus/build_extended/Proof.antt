@@ -12,12 +12,12 @@ use Rattle.bus.proofs.Bus.build_extended.Statement.{statement}
 use Rattle.bus.proofs.Bus.build_extended.Tie as tie
 
 returns : tie.Need-returns
-returns c = simp (c .refuse .ensures, sym (c .before .before .is-bad .ensures) ∙ c .before .if1 .taken)
+returns c = simp (c .refuse .ensures, sym (c .before .before .bad-build .ensures) ∙ c .before .if1 .taken)
 
-parties-at-requires : tie.Need-parties-at-requires
-parties-at-requires c κs =
+placed-requires : tie.Need-placed-requires
+placed-requires c κs =
     let a = c .before .before .before .before .args in
-    let few = fits (names (a .addresses .now) (a .secondaries .now)) (a .system) (sym (c .before .is-bad .ensures) ∙ c .if1 .left) in
+    let few = fits (names (a .addresses .now) (a .secondaries .now)) (a .system) (sym (c .before .bad-build .ensures) ∙ c .if1 .left) in
     let z = names-length (a .addresses .now) (a .secondaries .now) in
     omega arith
 
@@ -25,13 +25,13 @@ returns-2 : tie.Need-returns-2
 returns-2 c =
     let p = c .before in
     let a = p .before .before .before .before .before .args in
-    let good = sym (p .before .before .is-bad .ensures) ∙ p .before .if1 .left in
+    let good = sym (p .before .before .bad-build .ensures) ∙ p .before .if1 .left in
     let few : length (a .addresses .now) ≤ 15 = rw (sym (names-length (a .addresses .now) (a .secondaries .now))) (fits (names (a .addresses .now) (a .secondaries .now)) (a .system) good) in
-    simp (c .refuse2 .ensures, p .parties-at .ensures, mod-eq-of-lt {n = length (a .addresses .now)} {m = 256} (omega arith) ∙ sym (names-length (a .addresses .now) (a .secondaries .now)), good)
+    simp (c .refuse2 .ensures, p .placed .ensures, mod-eq-of-lt {n = length (a .addresses .now)} {m = 256} (omega arith) ∙ sym (names-length (a .addresses .now) (a .secondaries .now)), good)
 
 pub build-extended-spec : {M : Type 1} → statement M
 build-extended-spec =
     tie.close
     (tie.spec
-    (λ c κs. search needs) (λ c κs. search needs) returns parties-at-requires (λ c. search needs)
+    (λ c κs. search needs) (λ c κs. search needs) returns placed-requires (λ c. search needs)
     (λ c κs. search needs) returns-2)

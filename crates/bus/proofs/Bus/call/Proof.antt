@@ -20,17 +20,17 @@ heard v =
     let w = v .before .before .before .before in
     let a = w .before .before .before .args in
     let z : length (a .self .parties) ≡ 15 = search (needs, length-of-map) in
-    v .told .ensures ∙ rw (v .before .has-end .ensures, v .before .before .sweep .ensures) (told-scan (a .self .count) (a .self .parties) z (w .before .slot .result) (hasEnd (a .self .standing)))
+    v .told .ensures ∙ rw (v .before .has-end .ensures, v .before .before .sweep-of .ensures) (told-scan (a .self .count) (a .self .parties) z (w .before .slot .result) (hasEnd (a .self .standing)))
 
 -- The refusal is the machine's: what was read at the slot is what the machine reads at the place.
-ruled : (j : tie.After-judged) → let a = j .before .before .before .before .before .before .before .before .before .before .before .before .before .args in j .judged .result ≡ refusal (lines (a .self)) (a .self) (a .c)
+ruled : (j : tie.After-judge) → let a = j .before .before .before .before .before .before .before .before .before .before .before .before .before .args in j .judge .result ≡ refusal (lines (a .self)) (a .self) (a .c)
 ruled j =
     let f = j .before .before .before in
     let v = f .before .before .before in
     let w = v .before .before .before .before .before in
     let a = w .before .before .args in
     rw (
-      j .judged .ensures,
+      j .judge .ensures,
       f .is-inside .ensures,
       heard v,
       w .slot .ensures .0,
@@ -57,7 +57,7 @@ returns c =
 returns-2 : tie.Need-returns-2
 returns-2 c =
     let j = c .before .before .before in
-    let no : isAccepted (j .judged .result) ≡ false = sym (c .before .before .is-accepted .ensures) ∙ c .before .if1 .left in
+    let no : isAccepted (j .judge .result) ≡ false = sym (c .before .before .is-accepted .ensures) ∙ c .before .if1 .left in
     c .refuse .ensures ∙ rw (sym (ruled j), no) refl
 
 pub call-spec : {M : Type 1} → statement M

@@ -12,7 +12,7 @@ returns-3 : tie.Need-returns-3
 returns-3 c = simp (c .attend .ensures, c .before .with-party .ensures, c .before .before .enum-told2 .given .1)
 
 returns-4 : tie.Need-returns-4
-returns-4 c = simp (c .clear .ensures, c .before .enum-told3 .given .1)
+returns-4 c = simp (c .clear-all .ensures, c .before .enum-told3 .given .1)
 
 pub follow-spec : {M : Type 1} → statement M
 follow-spec =

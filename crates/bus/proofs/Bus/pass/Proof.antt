@@ -13,7 +13,7 @@ returns c =
       c .before .before .before .before .before .say .ensures,
       c .before .before .before .before .before .before .held-bytes2 .ensures .0,
       c .before .before .before .before .before .before .before .held-bytes .ensures .0,
-      c .before .before .before .before .before .before .before .before .party-at .ensures,
+      c .before .before .before .before .before .before .before .before .at .ensures,
     )
 
 pub pass-spec : {M : Type 1} → statement M

@@ -69,8 +69,8 @@ is-source-requires c κs = search needs
 is-left-requires : tie.Need-is-left-requires Inv-loop μ-loop Inv-loop2 μ-loop2
 is-left-requires c κs = search needs
 
-within-places-requires : tie.Need-within-places-requires Inv-loop μ-loop Inv-loop2 μ-loop2
-within-places-requires c κs = search needs
+within-requires : tie.Need-within-requires Inv-loop μ-loop Inv-loop2 μ-loop2
+within-requires c κs = search needs
 
 loop-holds : tie.Need-loop-holds Inv-loop μ-loop Inv-loop2 μ-loop2
 loop-holds c = search needs
@@ -139,8 +139,8 @@ loop2-again c =
 unless-requires : tie.Need-unless-requires Inv-loop μ-loop Inv-loop2 μ-loop2
 unless-requires c κs = search needs
 
-answer-requires : tie.Need-answer-requires Inv-loop μ-loop Inv-loop2 μ-loop2
-answer-requires c κs = search needs
+answered-requires : tie.Need-answered-requires Inv-loop μ-loop Inv-loop2 μ-loop2
+answered-requires c κs = search needs
 
 returns : tie.Need-returns Inv-loop μ-loop Inv-loop2 μ-loop2
 returns c =
@@ -152,11 +152,11 @@ returns c =
     let ps = g .if1 .parties in
     let e : j .if2 .parties ≡ each (a .self .count) (settled (a .atn)) ps =
     elim (j .if2 .came) [
-      | inl x ↦ rw (x .3, x .1 .inv .2) (all true ps (m .1) (a .self .count) (w .within-places .result) (x .1 .k) (w .within-places .ensures .0) (x .1 .inv .0) (x .2 .left) (x .1 .inv .1))
-      | inr x ↦ rw (x .3, x .1 .inv .2) (all false ps (m .1) (a .self .count) (w .within-places .result) (x .1 .k) (w .within-places .ensures .0) (x .1 .inv .0) (x .2 .left) (x .1 .inv .1))
+      | inl x ↦ rw (x .3, x .1 .inv .2) (all true ps (m .1) (a .self .count) (w .within .result) (x .1 .k) (w .within .ensures .0) (x .1 .inv .0) (x .2 .left) (x .1 .inv .1))
+      | inr x ↦ rw (x .3, x .1 .inv .2) (all false ps (m .1) (a .self .count) (w .within .result) (x .1 .k) (w .within .ensures .0) (x .1 .inv .0) (x .2 .left) (x .1 .inv .1))
     ] in
     let o : w .before .is-left .result ≡ deserted (a .atn) ps (a .e .standing) = rw (w .before .is-left .ensures, w .before .before .is-source .ensures, w .before .before .before .before .sender-slot .ensures .0) (left-seat (a .atn) ps (a .e .standing) (m .1)) in
-    rw (c .answer .ensures, c .before .unless .ensures, e, o, m .0) refl
+    rw (c .answered .ensures, c .before .unless .ensures, e, o, m .0) refl
 
 pub settle-spec : {M : Type 1} → statement M
 settle-spec =
@@ -174,7 +174,7 @@ settle-spec =
     array-copy-out-sender
     is-source-requires
     is-left-requires
-    within-places-requires
+    within-requires
     loop-holds
     mul-p
     array-copy-out-p
@@ -194,5 +194,5 @@ settle-spec =
     loop2-less
     loop2-again
     unless-requires
-    answer-requires
+    answered-requires
     returns)

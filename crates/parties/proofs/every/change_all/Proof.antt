@@ -16,8 +16,8 @@ Inv-loop count c out₀ n k₀ out k = (k ≤ n) × (out ≡ each k (changed c) 
 abbrev μ-loop : tie.MeasureT-loop
 μ-loop count c out₀ n k₀ out k = n - k
 
-within-places-requires : tie.Need-within-places-requires Inv-loop μ-loop
-within-places-requires c κs = search needs
+within-requires : tie.Need-within-requires Inv-loop μ-loop
+within-requires c κs = search needs
 
 loop-holds : tie.Need-loop-holds Inv-loop μ-loop
 loop-holds c = search needs
@@ -28,8 +28,8 @@ mul-p c = search needs
 array-copy-out-p : tie.Need-array-copy-out-p Inv-loop μ-loop
 array-copy-out-p c = search needs
 
-change-of-requires : tie.Need-change-of-requires Inv-loop μ-loop
-change-of-requires c κs = search needs
+changed-requires : tie.Need-changed-requires Inv-loop μ-loop
+changed-requires c κs = search needs
 
 mul-out : tie.Need-mul-out Inv-loop μ-loop
 mul-out c = search needs
@@ -49,7 +49,7 @@ loop-again c =
     let ps = b .before .before .args .ps in
     let f = changed (b .before .before .args .c) in
     let z : length ps ≡ 15 = search (needs, length-of-map) in
-    (search needs, turn (λ k. each k f ps) (λ l. set l (b .loop .k) (f (at l (b .loop .k)))) (b .loop .k) (each-turn (b .loop .k) f ps (omega arith)) (b .loop .inv .1) (ap (λ q. set (b .loop .out) (b .loop .k) q) (c .change-of .ensures)))
+    (search needs, turn (λ k. each k f ps) (λ l. set l (b .loop .k) (f (at l (b .loop .k)))) (b .loop .k) (each-turn (b .loop .k) f ps (omega arith)) (b .loop .inv .1) (ap (λ q. set (b .loop .out) (b .loop .k) q) (c .changed .ensures)))
 
 returns : tie.Need-returns Inv-loop μ-loop
 returns c =
@@ -57,7 +57,7 @@ returns c =
     let ps = b .before .before .args .ps in
     let f = changed (b .before .before .args .c) in
     let z : length ps ≡ 15 = search (needs, length-of-map) in
-    done (λ k. each k f ps) (b .before .before .args .count) (b .before .within-places .result) (b .loop .k) (all-15 (λ k. each k f ps) (b .before .before .args .count) ps z (each-all (b .before .before .args .count) f ps)) (b .before .within-places .ensures .0) (b .loop .inv .0) (omega arith) (b .loop .inv .1)
+    done (λ k. each k f ps) (b .before .before .args .count) (b .before .within .result) (b .loop .k) (all-15 (λ k. each k f ps) (b .before .before .args .count) ps z (each-all (b .before .before .args .count) f ps)) (b .before .within .ensures .0) (b .loop .inv .0) (omega arith) (b .loop .inv .1)
 
 pub change-all-spec : {M : Type 1} → statement M
 change-all-spec =
@@ -65,11 +65,11 @@ change-all-spec =
     (tie.spec
     Inv-loop
     μ-loop
-    within-places-requires
+    within-requires
     loop-holds
     mul-p
     array-copy-out-p
-    change-of-requires
+    changed-requires
     mul-out
     array-set-from-out
     add-k

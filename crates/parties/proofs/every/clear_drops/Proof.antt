@@ -16,8 +16,8 @@ Inv-loop count ps sum₀ n k₀ sum k = (k ≤ n) × (sum ≡ total k clearDrops
 abbrev μ-loop : tie.MeasureT-loop
 μ-loop count ps sum₀ n k₀ sum k = n - k
 
-within-places-requires : tie.Need-within-places-requires Inv-loop μ-loop
-within-places-requires c κs = search needs
+within-requires : tie.Need-within-requires Inv-loop μ-loop
+within-requires c κs = search needs
 
 loop-holds : tie.Need-loop-holds Inv-loop μ-loop
 loop-holds c = search needs
@@ -55,7 +55,7 @@ returns c =
     let b = c .before in
     let ps = b .before .before .args .t1 in
     let z : length ps ≡ 15 = search (needs, length-of-map) in (
-      done (λ k. total k clearDrops ps) (b .before .before .args .count) (b .before .within-places .result) (b .loop .k) (all-15 (λ k. total k clearDrops ps) (b .before .before .args .count) ps z (total-all (b .before .before .args .count) clearDrops ps)) (b .before .within-places .ensures .0) (b .loop .inv .0) (omega arith) (b .loop .inv .1),
+      done (λ k. total k clearDrops ps) (b .before .before .args .count) (b .before .within .result) (b .loop .k) (all-15 (λ k. total k clearDrops ps) (b .before .before .args .count) ps z (total-all (b .before .before .args .count) clearDrops ps)) (b .before .within .ensures .0) (b .loop .inv .0) (omega arith) (b .loop .inv .1),
       omega arith,
     )
 
@@ -65,7 +65,7 @@ clear-drops-spec =
     (tie.spec
     Inv-loop
     μ-loop
-    within-places-requires
+    within-requires
     loop-holds
     mul-p
     array-copy-out-p

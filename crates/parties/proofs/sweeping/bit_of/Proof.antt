@@ -11,7 +11,7 @@ use Rattle.parties.proofs.sweeping.bit_of.Tie as tie
 returns : tie.Need-returns
 returns c =
     let a = c .before .before .before .args in
-    let w = c .before .before .within-places .ensures in
+    let w = c .before .before .within .ensures in
     let e = w .0 in
     let l = w .1 in
     let h : a .p .0 < within (a .count) = omega arith in
@@ -20,7 +20,7 @@ returns c =
 returns-2 : tie.Need-returns-2
 returns-2 c =
     let a = c .before .before .before .args in
-    let e = c .before .before .within-places .ensures .0 in
+    let e = c .before .before .within .ensures .0 in
     rw (bit-alone (within (a .count)) (a .p .0), le-ltb (a .p .0) (within (a .count)) (omega arith)) refl
 
 pub bit-of-spec : {M : Type 1} → statement M

@@ -6,7 +6,7 @@ returns : tie.Need-returns
 returns c =
     simp (
       c .with-rsv2 .ensures,
-      c .before .keeps-rsv2 .ensures,
+      c .before .rsv2-kept .ensures,
     )
 
 pub reported-spec : {M : Type 1} → statement M
