@@ -1,28 +1,35 @@
-// A call and its refusal: the party that it names, its switch, and whether it was accepted.
+// A call and its refusal: the party that it names, its switch, the refusal's number, and whether it was accepted.
 ghost use mathlib.Core.Path.{_≡_};
-ghost use Rattle.effect.specs.Words.{isAccepted};
+ghost use Rattle.effect.specs.Words.{refusalNumber, isAccepted};
 ghost use Rattle.effect.specs.Calls.{placeOf, isOn};
 use crate::Call;
 use crate::Refusal;
 use party::Place;
 
 impl Refusal {
+    // 0 for an accepted call.
+    pub fn number(self) -> u8
+        ensures { λ r. ⌜ r ≡ refusalNumber self ⌝ }
+    {
+        match self {
+            Refusal::Accepted => 0,
+            Refusal::NoParty => 1,
+            Refusal::BadBuild => 2,
+            Refusal::BadValue => 3,
+            Refusal::Role => 4,
+            Refusal::Attention => 5,
+            Refusal::Talker => 6,
+            Refusal::Standing => 7,
+            Refusal::Full => 8,
+            Refusal::Empty => 9,
+            Refusal::Record => 10,
+        }
+    }
+
     pub fn is_accepted(self) -> bool
         ensures { λ r. ⌜ r ≡ isAccepted self ⌝ }
     {
-        match self {
-            Refusal::Accepted => true,
-            Refusal::NoParty => false,
-            Refusal::BadBuild => false,
-            Refusal::BadValue => false,
-            Refusal::Role => false,
-            Refusal::Attention => false,
-            Refusal::Talker => false,
-            Refusal::Standing => false,
-            Refusal::Full => false,
-            Refusal::Empty => false,
-            Refusal::Record => false,
-        }
+        self.number() == 0
     }
 }
 

@@ -13,7 +13,7 @@ use Rattle.effect.specs.Words.{refusalNumber}
 use Rattle.runner.specs.declared.Given.{Given}
 use Rattle.image.specs.Image.{rowsOf, busOf}
 use Rattle.image.proofs.Kept.{kept}
-use Rattle.packing.specs.Packing.{packed}
+use Rattle.meskvorn.specs.Packing.{packed}
 use Rattle.meskvorn.specs.Host.{Answered, Gave, maskList, countList, Counted}
 use Rattle.meskvorn.specs.Hosted.{answerOf, turnsOf, Asked, call, run, drivers-of-lines, Reply, answer, turns, driven, Handed, none, called, ran, asked, Same, Hosted, HostedFromBuild}
 use Rattle.meskvorn.proofs.Sizes.{answer-size, turns-size, drivers-size, build-size}

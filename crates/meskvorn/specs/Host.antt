@@ -13,7 +13,6 @@ use Rattle.parties.specs.declared.Masks.{Masks}
 use Rattle.parties.specs.declared.Counts.{Counts}
 use Rattle.bus.specs.Record.{here, refuse}
 use Rattle.image.specs.Image.{rowsOf}
-use Rattle.packing.specs.Packing.{packed, packedName}
 use Rattle.refusals.specs.Refusals.{isInside}
 use Rattle.orders.specs.Orders.{orderOf, obey}
 use Rattle.effect.specs.Words.{refusalNumber}
@@ -21,6 +20,7 @@ use Rattle.runner.specs.declared.Given.{Given}
 use Rattle.run.specs.declared.Ran.{Ran}
 use Rattle.run.specs.declared.Ran.the-variants.{Wrote, NoRoom}
 use Rattle.run.specs.Run.{RanAs}
+use Rattle.meskvorn.specs.Packing.{packed, packedName}
 
 -- The largest number of 64 bits stands for no room.
 abbrev pub countOf : Ran → ℕ

@@ -16,7 +16,7 @@ use Rattle.runner.specs.declared.Given.{Given}
 use Rattle.runner.specs.Waiting.{byPlace}
 use Rattle.runner.specs.Runner.{giveTurns}
 use Rattle.image.specs.Image.{rowsOf, busOf}
-use Rattle.packing.specs.Packing.{packed}
+use Rattle.meskvorn.specs.Packing.{packed}
 use Rattle.meskvorn.specs.Host.{answerTo, Answered, Gave, maskList, countList, Counted}
 
 -- An operation: the four numbers that meskvorn_call takes.

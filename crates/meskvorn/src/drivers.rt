@@ -3,9 +3,9 @@ ghost use mathlib.Core.Path.{_≡_};
 ghost use Rattle.bus.specs.Drivers.{drivers};
 ghost use Rattle.image.specs.Image.{busOf};
 ghost use Rattle.meskvorn.specs.Host.{maskList, countList, Counted};
+use crate::packing::packed;
 use image::reading::bus_of;
 use image::writing::rows_of;
-use packing::packed;
 use parties::Counts;
 use parties::Masks;
 

@@ -2,9 +2,9 @@
 ghost use Rattle.image.specs.Image.{busOf};
 ghost use Rattle.meskvorn.specs.Host.{answerTo, Answered};
 use crate::calls::answer_to;
+use crate::packing::packed;
 use image::reading::bus_of;
 use image::writing::rows_of;
-use packing::packed;
 
 // Any operation other than build, on the bus that the rows hold. Every content of the rows is some bus.
 #[no_mangle]

@@ -7,6 +7,7 @@ pub mod builds;
 pub mod calls;
 pub mod drivers;
 pub mod host;
+pub mod packing;
 pub mod turns;
 
 // The number of bytes written; the largest number where there was no room.

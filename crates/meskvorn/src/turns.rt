@@ -6,7 +6,6 @@ ghost use Rattle.meskvorn.specs.Host.{Gave};
 use image::reading::bus_of;
 use image::writing::rows_of;
 use runner::give_turns;
-use words::refusal_number;
 
 // So many turns on the bus that the rows hold, each to the party that has waited longest. Gives the number of the refusal, and to counts how many turns each place had.
 #[no_mangle]
@@ -21,5 +20,5 @@ pub extern "C" fn meskvorn_turns(bus: &mut [[u8; 24]; 16], turns: u16, counts: &
     let next = given.bus;
     *bus = rows_of(next);
     *counts = had;
-    refusal_number(refusal)
+    refusal.number()
 }

@@ -1,7 +1,7 @@
 -- The example scripts give their text: computed.
 -- Assumes nothing.
 use mathlib.Core.Path.{refl}
-use Rattle.words.specs.Words.{codes, wordText}
+use Rattle.event.specs.Words.{codes, wordText}
 use Rattle.text.specs.Text.{decimalOf, numberText, byteText, headText, eventText, countsText, lineOf}
 use Rattle.orders.specs.Orders.{orderOf, countUp, buildFrom, obey}
 use Rattle.run.specs.Script.{answerTo}

@@ -4,7 +4,7 @@
 use Prim.Native.Nat.{ℕ}
 use mathlib.Core.Path.{_≡_}
 use mathlib.Core.List.{List, [], _∷_}
-use Rattle.words.specs.Words.{codes}
+use Rattle.event.specs.Words.{codes}
 use Rattle.run.specs.Run.{textOf}
 
 -- A record with the mark, before the rest of a script.

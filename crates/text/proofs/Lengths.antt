@@ -9,12 +9,13 @@ use lib.Dec.{ltb, lit≤}
 use lib.ListN.{length, length-append}
 use Rattle.event.specs.declared.Event.{Event}
 use Rattle.event.specs.declared.Event.the-variants as E
+use Rattle.event.specs.Words.{codes, wordText, hasByte}
+use Rattle.party.specs.Parts.{one}
 use Rattle.bus.specs.declared.Answer.{Answer}
 use Rattle.effect.specs.declared.Refusal.{Refusal}
 use Rattle.effect.specs.declared.Refusal.the-variants as R
 use Rattle.effect.specs.Words.{refusalNumber}
-use Rattle.text.specs.Text.{digitOf, decimalOf, numberText, byteText, oneIf, headText, eventText, countsText, lineOf}
-use Rattle.words.specs.Words.{codes, wordText, hasByte}
+use Rattle.text.specs.Text.{digitOf, decimalOf, numberText, byteText, headText, eventText, countsText, lineOf}
 
 at-most-five : (a b c d e : ℕ) (p q r s : Bool) → length (cond p (a ∷ []) (cond q (b ∷ a ∷ []) (cond r (c ∷ b ∷ a ∷ []) (cond s (d ∷ c ∷ b ∷ a ∷ []) (e ∷ d ∷ c ∷ b ∷ a ∷ []))))) ≤ 5
 at-most-five a b c d e true q r s = lit≤ tt
@@ -45,7 +46,7 @@ refusal-length R.Full = lit≤ tt
 refusal-length R.Empty = lit≤ tt
 refusal-length R.Record = lit≤ tt
 
-end-length : (b : Bool) → length (decimalOf (oneIf b)) ≤ 1
+end-length : (b : Bool) → length (decimalOf (one b)) ≤ 1
 unfolding decimalOf
 end-length true = lit≤ tt
 end-length false = lit≤ tt
@@ -85,9 +86,9 @@ unfolding countsText
 counts-length end d k =
     omega (
       arith,
-      length-append (numberText (oneIf end) 32 ++ numberText d 32) (numberText k 10),
-      length-append (numberText (oneIf end) 32) (numberText d 32),
-      number-length (oneIf end) 32,
+      length-append (numberText (one end) 32 ++ numberText d 32) (numberText k 10),
+      length-append (numberText (one end) 32) (numberText d 32),
+      number-length (one end) 32,
       number-length d 32,
       number-length k 10,
       end-length end,

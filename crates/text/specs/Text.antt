@@ -9,9 +9,10 @@ use lib.Dec.{ltb}
 use lib.ListN.{length}
 use lib.Seq.{sets}
 use Rattle.event.specs.declared.Event.{Event}
+use Rattle.event.specs.Words.{wordText, hasByte}
+use Rattle.party.specs.Parts.{one}
 use Rattle.effect.specs.declared.Refusal.{Refusal}
 use Rattle.effect.specs.Words.{refusalNumber}
-use Rattle.words.specs.Words.{wordText, hasByte}
 use Rattle.bus.specs.declared.Answer.{Answer}
 
 -- What writing a text at a place does: after is before with the text stored from that place on, and r is the place behind it, still inside the buffer.
@@ -53,10 +54,6 @@ hexText b = hexOf (b / 16 % 16) ∷ hexOf (b % 16) ∷ 32 ∷ []
 unfoldable pub byteText : Bool → ℕ → List ℕ
 byteText has b = cond has (hexText b) (45 ∷ 45 ∷ 32 ∷ [])
 
--- END as a number.
-abbrev pub oneIf : Bool → ℕ
-oneIf b = cond b 1 0
-
 -- The number of the record and that of the refusal.
 unfoldable pub headText : ℕ → Refusal → List ℕ
 headText n r = numberText n 32 ++ numberText (refusalNumber r) 32
@@ -67,7 +64,7 @@ eventText e b = wordText e ++ byteText (hasByte e) b
 
 -- END, dropped, broken, and the end of the line.
 unfoldable pub countsText : Bool → ℕ → ℕ → List ℕ
-countsText end dropped broken = numberText (oneIf end) 32 ++ numberText dropped 32 ++ numberText broken 10
+countsText end dropped broken = numberText (one end) 32 ++ numberText dropped 32 ++ numberText broken 10
 
 -- The line of record n.
 unfoldable pub lineOf : ℕ → Answer → List ℕ

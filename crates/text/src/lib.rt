@@ -3,14 +3,12 @@
 ghost use mathlib.Core.Path.{_≡_};
 ghost use Prim.Native.Nat.{_+_, _<_, _≤_, _/_, _%_};
 ghost use lib.ListN.{length};
-ghost use Rattle.text.specs.Text.{Wrote, Put, digitOf, hexOf, decimalOf, numberText, byteText, oneIf, headText, eventText, countsText, lineOf};
-ghost use Rattle.words.specs.Words.{wordText};
+ghost use Rattle.text.specs.Text.{Wrote, Put, digitOf, hexOf, decimalOf, numberText, byteText, headText, eventText, countsText, lineOf};
+ghost use Rattle.event.specs.Words.{wordText};
 use bus::Answer;
 use effect::Refusal;
 use event::Event;
-use words::has_byte;
-use words::refusal_number;
-use words::word_of;
+use party::clearing::one;
 
 // Copies a word into the buffer at a place; the place after it.
 fn copy_in(word: &[u8], out: &mut [u8], at: usize) -> usize
@@ -79,7 +77,7 @@ fn put_word(e: Event, out: &mut [u8], at: usize) -> usize
     requires { ⌜ at + length (wordText e) ≤ length (now out) ⌝ }
     ensures { λ r. ⌜ Wrote (now (out .entry)) at (wordText e) (now (out .exit)) r ⌝ }
 {
-    let w = word_of(e);
+    let w = e.word();
     let text = w.text;
     let len = w.len;
     copy_in(&text[..len], out, at)
@@ -103,19 +101,13 @@ fn put_byte(has: bool, b: u8, out: &mut [u8], at: usize) -> usize
     copy_in(b"-- ", out, at)
 }
 
-fn one_if(b: bool) -> usize
-    ensures { λ r. ⌜ r ≡ oneIf b ⌝ }
-{
-    if b { 1 } else { 0 }
-}
-
 // The record's number and the refusal's.
 fn put_head(n: usize, r: Refusal, out: &mut [u8], at: usize) -> usize
     requires { ⌜ at + length (headText n r) ≤ length (now out) ⌝ }
     ensures { λ q. ⌜ Wrote (now (out .entry)) at (headText n r) (now (out .exit)) q ⌝ }
 {
     let p = put_number(n, b' ', out, at);
-    put_number(refusal_number(r) as usize, b' ', out, p)
+    put_number(r.number() as usize, b' ', out, p)
 }
 
 // The event's word and the byte.
@@ -124,7 +116,7 @@ fn put_event(e: Event, b: u8, out: &mut [u8], at: usize) -> usize
     ensures { λ r. ⌜ Wrote (now (out .entry)) at (eventText e b) (now (out .exit)) r ⌝ }
 {
     let p = put_word(e, out, at);
-    put_byte(has_byte(e), b, out, p)
+    put_byte(e.has_byte(), b, out, p)
 }
 
 // END and the counts, and the end of the line.
@@ -132,7 +124,7 @@ fn put_counts(end: bool, dropped: u8, broken: u8, out: &mut [u8], at: usize) -> 
     requires { ⌜ at + length (countsText end dropped broken) ≤ length (now out) ⌝ }
     ensures { λ r. ⌜ Wrote (now (out .entry)) at (countsText end dropped broken) (now (out .exit)) r ⌝ }
 {
-    let p = put_number(one_if(end), b' ', out, at);
+    let p = put_number(one(end) as usize, b' ', out, at);
     let q = put_number(dropped as usize, b' ', out, p);
     put_number(broken as usize, b'\n', out, q)
 }

@@ -15,12 +15,12 @@ put-number-requires-2 : tie.Need-put-number-requires-2
 unfolding headText
 put-number-requires-2 c κs =
     let s = c .before .before .before .before .before .before .before in
-    rw (c .before .refusal-number .ensures) (room (c .before .before .before .before .put-number .ensures) (numberText (refusalNumber (s .args .r)) 32) (s .pre))
+    rw (c .before .number .ensures) (room (c .before .before .before .before .put-number .ensures) (numberText (refusalNumber (s .args .r)) 32) (s .pre))
 
 returns : tie.Need-returns
 unfolding headText
 returns c =
-    joined (c .before .before .before .before .before .before .before .put-number .ensures) (rw (c .before .before .before .before .refusal-number .ensures) at (c .before .before .put-number2 .ensures))
+    joined (c .before .before .before .before .before .before .before .put-number .ensures) (rw (c .before .before .before .before .number .ensures) at (c .before .before .put-number2 .ensures))
 
 pub put-head-spec : {M : Type 1} → statement M
 put-head-spec =

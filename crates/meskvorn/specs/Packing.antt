@@ -5,27 +5,9 @@ use Rattle.names.specs.declared.Secondary.{Secondary}
 use Rattle.names.specs.declared.Secondary.the-variants.{Absent, Given}
 use Rattle.names.specs.declared.Name.{Name}
 use Rattle.party.specs.Parts.{one}
-use Rattle.event.specs.declared.Event.{Event}
-use Rattle.event.specs.declared.Event.the-variants as ev
+use Rattle.event.specs.Words.{eventNumber}
 use Rattle.effect.specs.Words.{refusalNumber}
 use Rattle.bus.specs.declared.Answer.{Answer}
-
--- The events in the order in which document 01 lists them: "none, moved .., cmd, data, stat (puts), took, heard, clear, trigger, ended, passed, noacc, read, lines"
-abbrev pub eventNumber : Event → ℕ
-eventNumber ev.None = 0
-eventNumber ev.Moved = 1
-eventNumber ev.Cmd = 2
-eventNumber ev.Data = 3
-eventNumber ev.Stat = 4
-eventNumber ev.Took = 5
-eventNumber ev.Heard = 6
-eventNumber ev.Clear = 7
-eventNumber ev.Trigger = 8
-eventNumber ev.Ended = 9
-eventNumber ev.Passed = 10
-eventNumber ev.Noacc = 11
-eventNumber ev.Read = 12
-eventNumber ev.Lines = 13
 
 -- Six bytes as one number, the first the lowest.
 abbrev pub bytes : ℕ → ℕ → ℕ → ℕ → ℕ → ℕ → ℕ

@@ -1,34 +1,11 @@
 // An answer and a name as a number each, which every host language takes.
 ghost use mathlib.Core.Path.{_≡_};
 ghost use Prim.Native.Nat.{_+_, _*_};
-ghost use Rattle.packing.specs.Packing.{eventNumber, bytes, packed, secondaryByte, packedName};
+ghost use Rattle.meskvorn.specs.Packing.{bytes, packed, secondaryByte, packedName};
 use bus::Answer;
-use event::Event;
 use names::Name;
 use names::Secondary;
 use party::clearing::one;
-use words::refusal_number;
-
-fn event_number(e: Event) -> u8
-    ensures { λ n. ⌜ n ≡ eventNumber e ⌝ }
-{
-    match e {
-        Event::None => 0,
-        Event::Moved => 1,
-        Event::Cmd => 2,
-        Event::Data => 3,
-        Event::Stat => 4,
-        Event::Took => 5,
-        Event::Heard => 6,
-        Event::Clear => 7,
-        Event::Trigger => 8,
-        Event::Ended => 9,
-        Event::Passed => 10,
-        Event::Noacc => 11,
-        Event::Read => 12,
-        Event::Lines => 13,
-    }
-}
 
 fn wide(x: u8) -> u64
     ensures { λ r. ⌜ r ≡ x ⌝ }
@@ -50,8 +27,8 @@ pub fn packed(a: Answer) -> u64
     let refusal = a.refusal;
     let event = a.event;
     bytes(
-        refusal_number(refusal),
-        event_number(event),
+        refusal.number(),
+        event.number(),
         a.byte,
         one(a.end),
         a.dropped,

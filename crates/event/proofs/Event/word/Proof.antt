@@ -1,9 +1,9 @@
 use borrow.Author.Needs.{needs}
-use Rattle.words.proofs.word_of.Statement.{statement}
-use Rattle.words.proofs.word_of.Tie as tie
+use Rattle.event.proofs.Event.word.Statement.{statement}
+use Rattle.event.proofs.Event.word.Tie as tie
 use mathlib.Core.Path.{refl}
 use lib.Dec.{lit≤}
-use Rattle.words.specs.Words.{codes, wordText}
+use Rattle.event.specs.Words.{codes, wordText}
 
 returns : tie.Need-returns
 unfolding wordText codes
@@ -61,8 +61,8 @@ returns-14 : tie.Need-returns-14
 unfolding wordText codes
 returns-14 c = rw (c .padded14 .ensures, c .before .before .before .enum-told14 .given .1) (lit≤ tt, refl)
 
-pub word-of-spec : {M : Type 1} → statement M
-word-of-spec =
+pub word-spec : {M : Type 1} → statement M
+word-spec =
     tie.close
     (tie.spec
     (λ c. search needs) (λ c κs. search needs) (λ c. search needs) (λ c κs. search needs) (λ c. search needs)

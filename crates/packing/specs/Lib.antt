@@ -1,2 +1,0 @@
--- An answer and a name as one number each.
-pub mod Packing

@@ -1,2 +1,0 @@
--- The words of an answer.
-pub mod Words
