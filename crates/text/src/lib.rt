@@ -24,7 +24,7 @@ fn copy_in(word: &[u8], out: &mut [u8], at: usize) -> usize
 }
 
 // The last decimal digit of n.
-fn digit(n: usize) -> u8
+fn digit_of(n: usize) -> u8
     ensures { λ r. ⌜ r ≡ digitOf n ⌝ }
 {
     48 + (n % 10) as u8
@@ -36,28 +36,28 @@ fn put_decimal(n: usize, out: &mut [u8], at: usize) -> usize
     ensures { λ r. ⌜ Wrote (now (out .entry)) at (decimalOf n) (now (out .exit)) r ⌝ }
 {
     if n < 10 {
-        return copy_in(&[digit(n)], out, at);
+        return copy_in(&[digit_of(n)], out, at);
     }
     if n < 100 {
-        return copy_in(&[digit(n / 10), digit(n)], out, at);
+        return copy_in(&[digit_of(n / 10), digit_of(n)], out, at);
     }
     if n < 1000 {
-        return copy_in(&[digit(n / 100), digit(n / 10), digit(n)], out, at);
+        return copy_in(&[digit_of(n / 100), digit_of(n / 10), digit_of(n)], out, at);
     }
     if n < 10000 {
         return copy_in(
-            &[digit(n / 1000), digit(n / 100), digit(n / 10), digit(n)],
+            &[digit_of(n / 1000), digit_of(n / 100), digit_of(n / 10), digit_of(n)],
             out,
             at,
         );
     }
     copy_in(
         &[
-            digit(n / 10000),
-            digit(n / 1000),
-            digit(n / 100),
-            digit(n / 10),
-            digit(n),
+            digit_of(n / 10000),
+            digit_of(n / 1000),
+            digit_of(n / 100),
+            digit_of(n / 10),
+            digit_of(n),
         ],
         out,
         at,
@@ -84,7 +84,7 @@ fn put_word(e: Event, out: &mut [u8], at: usize) -> usize
 }
 
 // A digit below 16 in lower case.
-fn hex(n: u8) -> u8
+fn hex_of(n: u8) -> u8
     ensures { λ r. ⌜ r ≡ hexOf (n % 16) ⌝ }
 {
     let d = n % 16;
@@ -96,7 +96,7 @@ fn put_byte(has: bool, b: u8, out: &mut [u8], at: usize) -> usize
     ensures { λ r. ⌜ Wrote (now (out .entry)) at (byteText has b) (now (out .exit)) r ⌝ }
 {
     if has {
-        return copy_in(&[hex(b / 16), hex(b), b' '], out, at);
+        return copy_in(&[hex_of(b / 16), hex_of(b), b' '], out, at);
     }
     copy_in(b"-- ", out, at)
 }
