@@ -46,7 +46,12 @@ fn put_decimal(n: usize, out: &mut [u8], at: usize) -> usize
     }
     if n < 10000 {
         return copy_in(
-            &[digit_of(n / 1000), digit_of(n / 100), digit_of(n / 10), digit_of(n)],
+            &[
+                digit_of(n / 1000),
+                digit_of(n / 100),
+                digit_of(n / 10),
+                digit_of(n),
+            ],
             out,
             at,
         );
