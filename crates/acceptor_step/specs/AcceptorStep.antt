@@ -3,11 +3,12 @@
 use Prim.Native.Nat.{ℕ}
 use mathlib.Core.Bool.{Bool, not, cond, _||_}
 use Rattle.message.specs.Meaning.{meaningOf}
-use Rattle.role.specs.Hearing.{hearEvent}
+use Rattle.role.specs.Roles.{hearEvent}
 use Rattle.offer.specs.Offer.{isFull}
 use Rattle.party.specs.Parts.{withAcceptor, withInput}
-use Rattle.party.specs.Hearing.{partyHeard}
-use Rattle.acceptor_step.specs.Types.{Acceptor, Aids, Anrs, Acrs, Acds, Awns, Full, Standing, Nothing, Byte, Effect, View}
+use Rattle.party.specs.Sending.{partyHeard}
+use Rattle.acceptor_step.specs.Types.{Acceptor, Aids, Anrs, Acrs, Acds, Awns, Full, Standing, Nothing, Byte}
+use Rattle.acceptor_step.specs.Types.{Effect, View}
 use Rattle.acceptor_step.specs.Types.ev
 use Rattle.effect.specs.Effects.{say, does, stay, moved}
 

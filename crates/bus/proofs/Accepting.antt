@@ -11,12 +11,11 @@ use Rattle.role.proofs.Logic.{no}
 use Rattle.parties.proofs.Places.{some-seen}
 use Rattle.bus.specs.Types.{Place, Party, Strs, Aids, Anrs, Acrs, Acds, Standing, Nothing, Byte, Bus, Refusal}
 use Rattle.bus.specs.Types.ruling
-use Rattle.effect.specs.Words.{isAccepted}
+use Rattle.effect.specs.Calls.{isAccepted, isOn}
 use Rattle.bus.specs.Record.{here, lines}
 use Rattle.effect.specs.Stands.{stands}
 use Rattle.host_calls.specs.HostCalls.{joining}
 use Rattle.refusals.specs.Refusals.{ofParty, ofSwitch, isInside}
-use Rattle.effect.specs.Calls.{isOn}
 use Rattle.bus.proofs.Invariant.{Inv}
 
 -- What a ruling of Accepted says of the test that it passed.

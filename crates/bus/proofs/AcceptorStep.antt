@@ -8,12 +8,13 @@ use Rattle.message.specs.Meaning.{meaningOf}
 use Rattle.offer.specs.Offer.{isFull}
 use Rattle.party.specs.Parts.{withAcceptor}
 use Rattle.party.specs.Driving.{isActive}
-use Rattle.role.specs.Hearing.{roleHeard, hearEvent}
+use Rattle.role.specs.Roles.{roleHeard, hearEvent}
 use Rattle.party.specs.Sending.{isSource}
 use Rattle.role.proofs.Logic.{no, test, cond-elim, or-right}
 use Rattle.role.proofs.Roles.{weak-same, hear-single, hear-name, hear-events}
 use Rattle.party.proofs.Settled.{source-of-active}
-use Rattle.bus.specs.Types.{Place, Party, Strs, Acceptor, Aids, Anrs, Acrs, Acds, Awns, Kind, Event, Standing, Nothing, Byte, Bus, Effect, View}
+use Rattle.bus.specs.Types.{Place, Party, Strs, Acceptor, Aids, Anrs, Acrs, Acds, Awns, Kind, Event, Standing}
+use Rattle.bus.specs.Types.{Nothing, Byte, Bus, Effect, View}
 use Rattle.bus.specs.Types.ev
 use Rattle.bus.specs.Types.call-of
 use Rattle.bus.specs.Types.act-of
@@ -21,7 +22,7 @@ use Rattle.bus.specs.Record.{here, lines}
 use Rattle.effect.specs.Stands.{stands}
 use Rattle.effect.specs.Effects.{say, stay, moved}
 use Rattle.acceptor_step.specs.AcceptorStep.{fills, hears, takes, acceptorIn}
-use Rattle.bus.specs.Following.{follow}
+use Rattle.bus.specs.Settling.{follow}
 use Rattle.bus.specs.Machine.{viewAt}
 use Rattle.bus.specs.Delivery.{isPut, isEnd, isTake, isHostPut}
 use Rattle.bus.proofs.Invariant.{sentBy, isCommand, codeOf, waits, look, Inv, atnOf, quiet}

@@ -13,34 +13,35 @@ use borrow.Author.Tests.{eq-eqb}
 use Rattle.party.specs.Parts.{idle, one, heldBytes, withAcceptor}
 use Rattle.offer.specs.Offer.{isFull}
 use Rattle.party.specs.Driving.{isActive}
-use Rattle.party.specs.Clearing.{wiped, cleared, clearDrops}
-use Rattle.party.specs.Settling.{changeControl, settled}
+use Rattle.party.specs.Settling.{wiped, cleared, clearDrops, changeControl, settled}
 use Rattle.role.proofs.Logic.{no, test, cond-elim}
 use Rattle.role.proofs.Roles.{nameOf, Single, Weak, weak-unaddressed}
 use Rattle.parties.specs.Places.{place, at, each, total}
 use Rattle.parties.specs.Lines.{linesByte}
 use Rattle.parties.proofs.Places.{upd, at-set, at-each-all, length-each, total-set, total-each, total-split}
-use Rattle.bus.specs.Types.{Place, Party, Control, Idle, Standby, Active, Acceptor, Aids, Anrs, Acrs, Acds, Empty, Command, Data, Status, Standing, Nothing, Byte, Bus, Said, Call, Outcome}
+use Rattle.bus.specs.Types.{Place, Party, Control, Idle, Standby, Active, Acceptor, Aids, Anrs, Acrs, Acds, Empty}
+use Rattle.bus.specs.Types.{Command, Data, Status, Standing, Nothing, Byte, Bus, Said, Call, Outcome}
 use Rattle.bus.specs.Types.ruling
 use Rattle.bus.specs.Types.ev
 use Rattle.bus.specs.Types.call-of
 use Rattle.bus.specs.Types.act-of
-use Rattle.effect.specs.Words.{isAccepted}
+use Rattle.effect.specs.Calls.{isAccepted}
 use Rattle.bus.specs.Record.{here, lines}
 use Rattle.effect.specs.Stands.{sendsCommand}
 use Rattle.effect.specs.Effects.{say, does, stay, quiet, withStanding}
-use Rattle.bus.specs.Settling.{settleBus, settleBusAs, deserted}
+use Rattle.bus.specs.Settling.{settleBus, settleBusAs, deserted, attention, settle, follow}
 use Rattle.host_calls.specs.HostCalls.{controlled, resetAcceptor, tell}
-use Rattle.bus.specs.Following.{attention, settle, follow}
 use Rattle.refusals.specs.Refusals.{inStandby, standbyRefusal}
 use Rattle.bus.specs.Machine.{viewAt, refusal, accepted}
 use Rattle.bus.specs.Delivery.{deed, neither, isPut, isHostPut, isTake, isEnd, isWrite, wrote, held}
-use Rattle.bus.proofs.Invariant.{busy, active-busy, sentBy, isCommand, inAcrs, is-acrs, waits, look, Inv, atnOf, settle-inv}
+use Rattle.bus.proofs.Invariant.{busy, active-busy, sentBy, isCommand, inAcrs, is-acrs, waits, look, Inv, atnOf}
+use Rattle.bus.proofs.Invariant.{settle-inv}
 use Rattle.bus.proofs.Change.{upd-all, Unique, upd-unique, same-apart, upd-apart, weak-look}
 use Rattle.bus.proofs.Putting.{role-heard}
 use Rattle.bus.proofs.Attention.{Raw}
 use Rattle.bus.proofs.Accepting.{if-so, if-not, known, stands-dav, joining-away, joining-dav}
-use Rattle.bus.proofs.Summary.{Shape, keeps, breaks, stayed, Good, inside, set-held, seen-settled, deserted-stands, kept-good, alarm-good}
+use Rattle.bus.proofs.Summary.{Shape, keeps, breaks, stayed, Good, inside, set-held, seen-settled}
+use Rattle.bus.proofs.Summary.{deserted-stands, kept-good, alarm-good}
 
 -- One party changes flags or control while no command stands: the parties are fit for attention.
 pub raw-set : (b : Bus) → Inv b → (i : ℕ) → i < b .count → (q : Party) → isCommand (b .standing) ≡ false

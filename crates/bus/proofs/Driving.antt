@@ -17,18 +17,21 @@ use Rattle.role.proofs.Logic.{no, test}
 use Rattle.party.specs.Settling.{settled}
 use Rattle.parties.specs.Places.{within}
 use Rattle.parties.proofs.Places.{each-still}
-use Rattle.parties.specs.Masks.{mask, isOn, countsOf}
+use Rattle.parties.specs.Lines.{mask, isOn, countsOf}
 use Rattle.parties.proofs.Bits.{bits-lt, bit-at, ones-bits, bits-none, bit-alone, one-counted}
 use Rattle.parties.proofs.Sweeps.{within-le, line-on}
 use Rattle.effect.specs.Stands.{hasEnd, sendsEnd}
-use Rattle.bus.specs.Types.{Party, Control, Idle, Standby, Active, Source, Sids, Sgns, Sdys, Strs, Standing, Nothing, Byte, Bus}
+use Rattle.bus.specs.Types.{Party, Control, Idle, Standby, Active, Source, Sids, Sgns, Sdys, Strs, Standing}
+use Rattle.bus.specs.Types.{Nothing, Byte, Bus}
 use Rattle.bus.specs.Types.ruling
 use Rattle.bus.specs.Types.call-of
 use Rattle.bus.specs.Record.{here, refuse, buildExtended}
 use Rattle.bus.specs.Settling.{deserted}
 use Rattle.bus.specs.Machine as m
 use Rattle.bus.specs.Delivery.{busAfter}
-use Rattle.bus.specs.Drivers.{Line, Atn, Dav, Nrfd, Ndac, Eoi, Srq, drives, maskOf, masks, counts, isDriven, CountOfOnes, OnePerParty, FifteenBits, NeverRefused, LeavesAsLines, OnWhereDriven, ChangesNothing, OneDriver}
+use Rattle.bus.specs.Drivers.{Line, Atn, Dav, Nrfd, Ndac, Eoi, Srq, drives, maskOf, masks, counts, isDriven}
+use Rattle.bus.specs.Drivers.{CountOfOnes, OnePerParty, FifteenBits, NeverRefused, LeavesAsLines, OnWhereDriven}
+use Rattle.bus.specs.Drivers.{ChangesNothing, OneDriver}
 use Rattle.bus.proofs.Invariant.{Inv, sentBy, atnOf}
 use Rattle.bus.proofs.Theorem.{delivery}
 use Rattle.bus.proofs.Reached.{reached, sender-is-source}

@@ -14,10 +14,10 @@ use Rattle.bus.specs.Types.{Place, Bus, Answer, Call, Standing, Effect}
 use Rattle.bus.specs.Types.ruling
 use Rattle.bus.specs.Types.call-of
 use Rattle.bus.specs.Types.act-of
-use Rattle.effect.specs.Words.{isAccepted}
+use Rattle.effect.specs.Calls.{isAccepted}
 use Rattle.bus.specs.Record.{here, lines}
 use Rattle.effect.specs.Stands.{stands}
-use Rattle.bus.specs.Following.{follow}
+use Rattle.bus.specs.Settling.{follow}
 use Rattle.bus.specs.Machine.{refusal}
 use Rattle.bus.specs.Machine as m
 use Rattle.bus.specs.Delivery.{Moment, history, isPut, isEnd, isHostPut, wrote, tally, held}

@@ -12,13 +12,12 @@ use Rattle.bus.specs.Types.ruling
 use Rattle.bus.specs.Types.ev
 use Rattle.bus.specs.Types.call-of
 use Rattle.bus.specs.Types.act-of
-use Rattle.effect.specs.Words.{isAccepted}
+use Rattle.effect.specs.Calls.{isAccepted, isOn}
 use Rattle.bus.specs.Record.{here, lines}
 use Rattle.effect.specs.Effects.{say, does, withStanding}
 use Rattle.host_calls.specs.HostCalls.{readOut, pollRegister, secondRequest, dropHeld}
-use Rattle.bus.specs.Following.{settle, follow}
+use Rattle.bus.specs.Settling.{settle, follow}
 use Rattle.refusals.specs.Refusals.{ofSwitch}
-use Rattle.effect.specs.Calls.{isOn}
 use Rattle.bus.specs.Machine.{viewAt, refusal, accepted}
 use Rattle.bus.proofs.Invariant.{Inv, atnOf}
 use Rattle.bus.proofs.Accepting.{if-not, known, switched}

@@ -14,15 +14,17 @@ use Rattle.message.specs.declared.Meaning.the-variants.{Other}
 use Rattle.party.specs.Parts.{idle}
 use Rattle.offer.specs.Offer.{isFull}
 use Rattle.party.specs.Driving.{isActive}
-use Rattle.role.specs.Hearing.{roleHeard}
+use Rattle.role.specs.Roles.{roleHeard}
 use Rattle.party.specs.Sending.{isSource, isPolled}
 use Rattle.party.specs.Settling.{settled}
 use Rattle.role.proofs.Logic.{no}
 use Rattle.role.proofs.Roles.{Single, Apart, Addressed, weak-same, weaken}
-use Rattle.party.proofs.Settled.{newborn-still, settled-strs, settled-keeps, settled-other, settled-twice, source-of-active}
+use Rattle.party.proofs.Settled.{newborn-still, settled-strs, settled-keeps, settled-other, settled-twice}
+use Rattle.party.proofs.Settled.{source-of-active}
 use Rattle.parties.specs.Places.{at, some, each}
 use Rattle.parties.proofs.Places.{at-each-all, some-each, length-each}
-use Rattle.bus.specs.Types.{Party, Control, Idle, Standby, Active, Sids, Strs, Acceptor, Aids, Anrs, Acrs, Acds, Awns, Kind, Command, Data, Status, Meaning, Role, Standing, Nothing, Byte, Bus, Said}
+use Rattle.bus.specs.Types.{Party, Control, Idle, Standby, Active, Sids, Strs, Acceptor, Aids, Anrs, Acrs, Acds}
+use Rattle.bus.specs.Types.{Awns, Kind, Command, Data, Status, Meaning, Role, Standing, Nothing, Byte, Bus, Said}
 use Rattle.bus.specs.Record.{here}
 use Rattle.effect.specs.Stands.{stands, hasEnd, ofCommand}
 use Rattle.bus.specs.Settling.{deserted, settleBus}

@@ -16,11 +16,11 @@ use Rattle.bus.specs.Types.ruling
 use Rattle.bus.specs.Types.ev
 use Rattle.bus.specs.Types.call-of
 use Rattle.bus.specs.Types.act-of
-use Rattle.effect.specs.Words.{isAccepted}
+use Rattle.effect.specs.Calls.{isAccepted}
 use Rattle.bus.specs.Record.{here, lines}
 use Rattle.effect.specs.Stands.{stands}
 use Rattle.effect.specs.Effects.{say, does, stay}
-use Rattle.bus.specs.Following.{settle}
+use Rattle.bus.specs.Settling.{settle}
 use Rattle.bus.specs.Machine.{viewAt, judged}
 use Rattle.bus.specs.Delivery.{isPut, isEnd, isTake, isHostPut, isWrite, wrote}
 use Rattle.bus.proofs.Invariant.{look, Inv, atnOf}

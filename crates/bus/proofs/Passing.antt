@@ -11,7 +11,7 @@ use borrow.Author.Tests.{eq-eqb, ltb-true, ltb-false}
 use Rattle.message.specs.Meaning.{meaningOf}
 use Rattle.party.specs.Parts.{idle, heldBytes, withSource}
 use Rattle.party.specs.Driving.{isActive}
-use Rattle.role.specs.Hearing.{passesControl}
+use Rattle.role.specs.Roles.{passesControl}
 use Rattle.party.specs.Settling.{changeControl}
 use Rattle.role.proofs.Logic.{no, test, cond-elim}
 use Rattle.role.proofs.Roles.{nameOf, Single, hear-single, hear-name, hear-passes}
@@ -23,8 +23,8 @@ use Rattle.bus.specs.Types.call-of
 use Rattle.bus.specs.Types.act-of
 use Rattle.bus.specs.Record.{here, lines}
 use Rattle.effect.specs.Effects.{say}
-use Rattle.party.specs.Hearing.{partyHeard}
-use Rattle.bus.specs.Following.{pass}
+use Rattle.party.specs.Sending.{partyHeard}
+use Rattle.bus.specs.Settling.{pass}
 use Rattle.bus.specs.Delivery.{held}
 use Rattle.bus.proofs.Invariant.{busy, active-busy, waits, look, Inv}
 use Rattle.bus.proofs.Change.{upd-all, Unique, upd-unique, same-apart}

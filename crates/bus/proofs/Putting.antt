@@ -10,16 +10,18 @@ use borrow.Author.Tests.{eqb-true, eqb-false, eq-eqb, ltb-true, ltb-false}
 use Rattle.party.specs.Parts.{idle}
 use Rattle.offer.specs.Offer.{isFull}
 use Rattle.party.specs.Driving.{isActive, nrfdAt, drivesNrfd}
-use Rattle.role.specs.Hearing.{roleHeard}
+use Rattle.role.specs.Roles.{roleHeard}
 use Rattle.party.specs.Sending.{isSource, isPolled}
 use Rattle.role.proofs.Logic.{no, test, cond-elim, or-either}
 use Rattle.role.proofs.Roles.{nameOf, Apart, live, Addressed, hear-name, hear-all, Single, hear-single}
 use Rattle.party.proofs.Settled.{source-case}
 use Rattle.parties.specs.Places.{place}
 use Rattle.parties.proofs.Places.{upd}
-use Rattle.bus.specs.Types.{Party, Sgns, Strs, Acceptor, Aids, Anrs, Acrs, Acds, Awns, Kind, Role, Standing, Nothing, Byte}
+use Rattle.bus.specs.Types.{Party, Sgns, Strs, Acceptor, Aids, Anrs, Acrs, Acds, Awns, Kind, Role, Standing}
+use Rattle.bus.specs.Types.{Nothing, Byte}
 use Rattle.effect.specs.Stands.{ofCommand}
-use Rattle.bus.proofs.Invariant.{busy, active-busy, sentBy, ofStatus, ofData, isCommand, codeOf, inAcrs, is-acrs, waits, look, look-idle, same-heard, Pre, Quiet}
+use Rattle.bus.proofs.Invariant.{busy, active-busy, sentBy, ofStatus, ofData, isCommand, codeOf, inAcrs, is-acrs}
+use Rattle.bus.proofs.Invariant.{waits, look, look-idle, same-heard, Pre, Quiet}
 use Rattle.bus.proofs.Change.{upd-all, Unique, upd-unique, upd-apart}
 
 -- with ATN false nothing that stands is a command

@@ -14,11 +14,10 @@ use Rattle.role.proofs.Logic.{no, test}
 use Rattle.parties.specs.Places.{at, slot, otherTalker}
 use Rattle.bus.specs.Types.{Place, Party, Standing, Nothing, Byte, Bus, Call, Refusal, View}
 use Rattle.bus.specs.Types.call-of
-use Rattle.effect.specs.Words.{isAccepted}
+use Rattle.effect.specs.Calls.{isAccepted, placeOf}
 use Rattle.bus.specs.Record.{lines}
 use Rattle.effect.specs.Stands.{senderSlot, isLeft}
 use Rattle.bus.specs.Settling.{deserted}
-use Rattle.effect.specs.Calls.{placeOf}
 use Rattle.refusals.specs.Refusals.{ofParty, isInside, judge}
 use Rattle.bus.specs.Machine.{refusal, viewAt}
 

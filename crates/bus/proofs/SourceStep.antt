@@ -10,13 +10,14 @@ use Rattle.message.specs.Meaning.{meaningOf}
 use Rattle.offer.specs.Offer.{isFull, kindOf, endOf}
 use Rattle.party.specs.Parts.{one, heldBytes, withSource}
 use Rattle.party.specs.Driving.{isActive, drivesNrfd}
-use Rattle.role.specs.Hearing.{roleHeard, passesControl}
-use Rattle.party.specs.Sending.{isSource, isPolled, offer}
+use Rattle.role.specs.Roles.{roleHeard, passesControl}
+use Rattle.party.specs.Sending.{isSource, isPolled, offer, partyHeard}
 use Rattle.role.proofs.Logic.{no, cond-elim}
 use Rattle.party.proofs.Settled.{source-case}
 use Rattle.parties.specs.Places.{place, otherTalker}
 use Rattle.parties.proofs.Places.{some-none}
-use Rattle.bus.specs.Types.{Place, Party, Source, Sids, Sgns, Sdys, Strs, Slot, Empty, Full, Kind, Command, Data, Status, Event, Found, Nowhere, At, Standing, Nothing, Byte, Bus, After, Effect, View}
+use Rattle.bus.specs.Types.{Place, Party, Source, Sids, Sgns, Sdys, Strs, Slot, Empty, Full, Kind, Command, Data}
+use Rattle.bus.specs.Types.{Status, Event, Found, Nowhere, At, Standing, Nothing, Byte, Bus, After, Effect, View}
 use Rattle.bus.specs.Types.ev
 use Rattle.bus.specs.Types.after
 use Rattle.bus.specs.Types.call-of
@@ -25,8 +26,7 @@ use Rattle.bus.specs.Record.{here, lines}
 use Rattle.effect.specs.Stands.{ofCommand}
 use Rattle.effect.specs.Effects.{say, does, stay, moved}
 use Rattle.source_step.specs.SourceStep.{put, noacc, ready, passTo, ended, sourceIn}
-use Rattle.party.specs.Hearing.{partyHeard}
-use Rattle.bus.specs.Following.{settle, follow}
+use Rattle.bus.specs.Settling.{settle, follow}
 use Rattle.bus.specs.Machine.{viewAt}
 use Rattle.bus.specs.Delivery.{isPut, isEnd, isTake, isHostPut}
 use Rattle.bus.proofs.Invariant.{sentBy, look, look-idle, Pre, Inv, atnOf, quiet}

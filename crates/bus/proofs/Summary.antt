@@ -18,7 +18,8 @@ use Rattle.role.proofs.Logic.{no}
 use Rattle.role.proofs.Roles.{Addressed}
 use Rattle.parties.specs.Places.{place, at, some, each, total}
 use Rattle.parties.proofs.Places.{upd, Tail, at-set, at-each-all, some-set, some-none, total-set, total-each}
-use Rattle.bus.specs.Types.{Place, Party, Acrs, Acds, Full, Kind, Event, Standing, Nothing, Byte, Bus, Said, Answer, Call, Refusal}
+use Rattle.bus.specs.Types.{Place, Party, Acrs, Acds, Full, Kind, Event, Standing, Nothing, Byte, Bus, Said}
+use Rattle.bus.specs.Types.{Answer, Call, Refusal}
 use Rattle.bus.specs.Types.ruling
 use Rattle.bus.specs.Types.ev
 use Rattle.bus.specs.Types.call-of
@@ -26,8 +27,7 @@ use Rattle.bus.specs.Types.act-of
 use Rattle.bus.specs.Record.{here, refuse}
 use Rattle.effect.specs.Stands.{stands}
 use Rattle.effect.specs.Effects.{say, does}
-use Rattle.bus.specs.Settling.{settleBusAs, attend, deserted}
-use Rattle.bus.specs.Following.{settle}
+use Rattle.bus.specs.Settling.{settleBusAs, attend, deserted, settle}
 use Rattle.bus.specs.Delivery.{isPut, isEnd, isTake, isHostPut, wrote, held}
 use Rattle.bus.proofs.Invariant.{look, Pre, Inv, atnOf, settled-idle, settle-inv}
 use Rattle.bus.proofs.Change.{keep-pre, Kept, upd-all}

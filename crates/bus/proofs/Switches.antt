@@ -22,14 +22,13 @@ use Rattle.bus.specs.Types.ruling
 use Rattle.bus.specs.Types.ev
 use Rattle.bus.specs.Types.call-of
 use Rattle.bus.specs.Types.act-of
-use Rattle.effect.specs.Words.{isAccepted}
+use Rattle.effect.specs.Calls.{isAccepted, isOn}
 use Rattle.bus.specs.Record.{here, lines}
 use Rattle.effect.specs.Stands.{stands}
 use Rattle.effect.specs.Effects.{say, does}
-use Rattle.bus.specs.Following.{settle}
+use Rattle.bus.specs.Settling.{settle}
 use Rattle.host_calls.specs.HostCalls.{joining}
 use Rattle.refusals.specs.Refusals.{ofSwitch, listenRefusal, talkRefusal}
-use Rattle.effect.specs.Calls.{isOn}
 use Rattle.bus.specs.Machine.{refusal, accepted}
 use Rattle.bus.specs.Delivery.{wrote}
 use Rattle.bus.proofs.Invariant.{isCommand, codeOf, waits, look, look-idle, same-heard, Inv, atnOf}

@@ -15,7 +15,7 @@ use Rattle.bus.specs.Types.ruling
 use Rattle.bus.specs.Types.ev
 use Rattle.bus.specs.Types.call-of
 use Rattle.bus.specs.Types.act-of
-use Rattle.effect.specs.Words.{isAccepted, actNumber}
+use Rattle.effect.specs.Calls.{isAccepted, actNumber}
 use Rattle.bus.specs.Record.{here, refuse, buildExtended}
 use Rattle.effect.specs.Stands.{stands}
 use Rattle.bus.specs.Machine as m

@@ -9,7 +9,7 @@ use lib.Count.{ones}
 use Rattle.party.specs.Parts.{one}
 use Rattle.party.specs.Driving.{isActive, drivesDav, drivesNrfd, drivesNdac, drivesSrq}
 use Rattle.parties.specs.Places.{within}
-use Rattle.parties.specs.Masks.{mask, howMany, isOn}
+use Rattle.parties.specs.Lines.{mask, howMany, isOn}
 use Rattle.effect.specs.Stands.{sendsEnd}
 use Rattle.bus.specs.Types.{Place, Name, Masks, Counts, Bus, Call, Drivers}
 use Rattle.bus.specs.Types.ruling

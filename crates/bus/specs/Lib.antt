@@ -2,7 +2,6 @@
 pub mod Types
 pub mod Record
 pub mod Settling
-pub mod Following
 pub mod Machine
 pub mod Rows
 pub mod Examples

@@ -1,27 +1,29 @@
--- The machine of document 01, from its front: what each call answers, and the bus after it, for every bus and every call.
+-- The machine of document 01, from its front: what each call answers, and the bus after it, for every bus and every
+-- call. docs/MACHINE.md tells it in words, in the order in which to read.
 --
+--   viewAt      below           what a call sees of the bus, made once
 --   refusal     below           which refusal a call meets, in document 01's order: `judge` in crates/refusals/specs
 --   accepted    below           if it meets none: an effect on its party, and what follows on that
---     effectOf  crates/accepted/specs, over crates/source_step/specs, crates/acceptor_step/specs and crates/host_calls/specs; their words in crates/effect/specs
---     follow    Following.antt  settling, attention, control that goes on, interface clear
---               Settling.antt   attention and settling themselves
+--     effectOf  crates/accepted/specs, over crates/source_step/specs, crates/acceptor_step/specs and
+--               crates/host_calls/specs; their words in crates/effect/specs
+--     follow    Settling.antt   settling, attention, control that goes on, interface clear
 --   build       Record.antt     the bus record, its lines, building; which addresses make a bus: crates/addresses/specs
---   one party   crates/party/specs (what it drives, hears, offers and settles to), over crates/role, crates/service and crates/offer
+--   one party   crates/party/specs (what it drives, hears, offers and settles to), over crates/role, crates/service and
+--               crates/offer
 --   parties     crates/parties/specs (some party, every party)
 --   the table   crates/message/specs (what a command byte means)
---   numbers     crates/effect/specs/Words.antt (the number of a refusal), crates/event/specs/Words.antt (the word of an event)
+--   numbers     crates/effect/specs/Calls.antt (of a refusal), crates/event/specs/Words.antt (an event's word)
 -- Assumes nothing.
 use mathlib.Core.Bool.{cond}
 use mathlib.Core.List.{List, [], _∷_}
 use lib.Dec.{eqb}
 use Rattle.parties.specs.Places.{otherTalker}
-use Rattle.effect.specs.Words.{isAccepted}
-use Rattle.effect.specs.Calls.{placeOf}
+use Rattle.effect.specs.Calls.{isAccepted, placeOf}
 use Rattle.refusals.specs.Refusals.{isInside, judge}
 use Rattle.accepted.specs.Accepted.{effectOf}
 use Rattle.bus.specs.Types.{Place, Lines, Bus, Answer, Call, Refusal, View}
 use Rattle.bus.specs.Record.{here, lines, refuse}
-use Rattle.bus.specs.Following.{follow}
+use Rattle.bus.specs.Settling.{follow}
 
 -- What a call of the party at place p sees of the bus, with the lines as it finds them.
 abbrev pub viewAt : Place → Lines → Bus → View

@@ -1,15 +1,21 @@
--- Attention and settling of the whole bus (document 01, "Attention and settling").
+-- Attention and settling of the whole bus, and what follows on a call's own changes.
 -- Assumes nothing.
+use Prim.Native.Nat.{ℕ, _+_}
 use mathlib.Core.Bool.{Bool, false, not, cond}
 use mathlib.Core.List.{List}
-use Rattle.party.specs.Parts.{one}
+use lib.ListN.{set}
+use Rattle.party.specs.Parts.{one, heldBytes}
 use Rattle.party.specs.Driving.{isActive}
 use Rattle.party.specs.Sending.{isSource}
-use Rattle.party.specs.Settling.{attended, settled}
-use Rattle.parties.specs.Places.{at, some, each}
-use Rattle.bus.specs.Types.{Party, Standing, Nothing, Byte, Bus, Answer, Said}
-use Rattle.bus.specs.Types.ruling
+use Rattle.party.specs.Settling.{attended, settled, cleared, clearDrops, changeControl}
+use Rattle.parties.specs.Places.{at, some, each, total}
 use Rattle.effect.specs.Stands.{stands}
+use Rattle.effect.specs.Effects.{say}
+use Rattle.bus.specs.Types.{Party, Standing, Nothing, Byte, Bus, Answer, Said, Idle, Active, After, Effect}
+use Rattle.bus.specs.Types.ruling
+use Rattle.bus.specs.Types.ev
+use Rattle.bus.specs.Types.after
+use Rattle.bus.specs.Record.{here}
 
 -- The answer of an accepted call that leaves the bus b. `off` says that what stood was broken off.
 abbrev pub answered : Bool → Said → Bus → Answer
@@ -42,3 +48,33 @@ attendAs atn b s ps st = settleBusAs atn (stands st) b s (each (b .count) (atten
 
 abbrev pub attend : Bus → Said → List Party → Standing → Answer
 attend b s ps st = attendAs (some (b .count) isActive ps) b s ps st
+
+-- A call that changes party i: without attention, and with it ("a call that changes which party is active (or none)").
+abbrev pub settle : Bool → Bus → ℕ → Effect → Answer
+settle atn b i e = settleBus atn b (e .said) (set (b .parties) i (e .party)) (e .standing)
+
+abbrev pub attention : Bus → ℕ → Effect → Answer
+attention b i e = attend b (e .said) (set (b .parties) i (e .party)) (e .standing)
+
+-- Control goes from party i to party j: "that party is active, the sender idle, event passed"
+abbrev pub pass : Bus → ℕ → Effect → ℕ → Answer
+pass b i e j = attend b
+    (say ev.Passed (e .said .byte) (e .said .end) (heldBytes (e .party) + heldBytes (here b j)))
+    (set (set (b .parties) i (changeControl Idle (e .party))) j (changeControl Active (here b j)))
+    (e .standing)
+
+-- "Interface clear: talk, listen and poll mode off everywhere, all control idle", then the system party as its effect says.
+abbrev pub clearAll : Bus → ℕ → Effect → Answer
+clearAll b i e = attend b
+    (say ev.None 0 false (total (b .count) clearDrops (b .parties) + heldBytes (cleared (here b i))))
+    (set (each (b .count) cleared (b .parties)) i (e .party))
+    (e .standing)
+
+abbrev pub followed : After → Bool → Bus → ℕ → Effect → Answer
+followed after.Settle atn b i e = settle atn b i e
+followed (after.Pass j) atn b i e = pass b i e (j .0)
+followed after.Attend atn b i e = attention b i e
+followed after.Clear atn b i e = clearAll b i e
+
+abbrev pub follow : Bool → Bus → ℕ → Effect → Answer
+follow atn b i e = followed (e .after) atn b i e

@@ -1,8 +1,7 @@
 // How a call ends: refused; or its changes made, with attention where it is due, and every party settled.
 ghost use mathlib.Core.Path.{_≡_};
 ghost use Rattle.bus.specs.Record.{refuse};
-ghost use Rattle.bus.specs.Settling.{answered, attend};
-ghost use Rattle.bus.specs.Following.{settle, pass, clearAll, follow};
+ghost use Rattle.bus.specs.Settling.{answered, attend, settle, pass, clearAll, follow};
 use crate::Answer;
 use crate::Bus;
 use effect::After;

@@ -1,11 +1,13 @@
--- A call: the party that it names, and its switch.
+-- A call: the party that it names, its switch, and the numbers of acts and of refusals.
 -- Assumes nothing.
 use Prim.Native.Nat.{ℕ}
 use mathlib.Core.Bool.{Bool}
 use lib.Dec.{eqb}
 use Rattle.parties.specs.Places.{place}
-use Rattle.effect.specs.Types.{Place, Call}
+use Rattle.effect.specs.Types.{Place, Call, Refusal, Act}
 use Rattle.effect.specs.Types.call-of
+use Rattle.effect.specs.Types.ruling
+use Rattle.effect.specs.Types.act-of
 
 -- The party that a call names. Lines and drivers name none; they read and change nothing of the one here.
 abbrev pub placeOf : Call → Place
@@ -15,3 +17,35 @@ placeOf call-of.Drivers = place 0
 
 abbrev pub isOn : ℕ → Bool
 isOn x = eqb x 1
+
+-- The table of refusals; 0 is no refusal.
+abbrev pub refusalNumber : Refusal → ℕ
+refusalNumber ruling.Accepted = 0
+refusalNumber ruling.NoParty = 1
+refusalNumber ruling.BadBuild = 2
+refusalNumber ruling.BadValue = 3
+refusalNumber ruling.Role = 4
+refusalNumber ruling.Attention = 5
+refusalNumber ruling.Talker = 6
+refusalNumber ruling.Standing = 7
+refusalNumber ruling.Full = 8
+refusalNumber ruling.Empty = 9
+refusalNumber ruling.Record = 10
+
+abbrev pub isAccepted : Refusal → Bool
+isAccepted r = eqb (refusalNumber r) 0
+
+-- "Operations, decimal": those that name a party. Document 02, Q-5: 13 second request.
+abbrev pub actNumber : Act → ℕ
+actNumber act-of.Step = 1
+actNumber (act-of.Write v e) = 2
+actNumber act-of.Read = 3
+actNumber (act-of.PollRegister v) = 4
+actNumber (act-of.ListenOnly on) = 5
+actNumber (act-of.TalkOnly on) = 6
+actNumber act-of.TakeControl = 7
+actNumber act-of.GoToStandby = 8
+actNumber act-of.InterfaceClear = 9
+actNumber act-of.Reset = 10
+actNumber act-of.Drop = 11
+actNumber (act-of.SecondRequest on) = 13

@@ -1,7 +1,6 @@
 // A call and its refusal: the party that it names, its switch, the refusal's number, and whether it was accepted.
 ghost use mathlib.Core.Path.{_≡_};
-ghost use Rattle.effect.specs.Words.{refusalNumber, isAccepted};
-ghost use Rattle.effect.specs.Calls.{placeOf, isOn};
+ghost use Rattle.effect.specs.Calls.{refusalNumber, isAccepted, placeOf, isOn};
 use crate::Call;
 use crate::Refusal;
 use party::Place;

@@ -3,7 +3,7 @@ ghost use mathlib.Core.Path.{_≡_};
 ghost use mathlib.Core.Bool.{cond, false};
 ghost use Prim.Native.Nat.{_<_};
 ghost use Rattle.parties.specs.Places.{within};
-ghost use Rattle.parties.specs.Masks.{mask};
+ghost use Rattle.parties.specs.Lines.{mask};
 ghost use Rattle.effect.specs.Types.{Nothing};
 ghost use Rattle.effect.specs.Stands.{stands, hasEnd, sendsCommand, sendsEnd, senderSlot, isLeft};
 use crate::Standing;

@@ -7,11 +7,10 @@ use Rattle.party.specs.Parts.{heldBytes, withRole, withAcceptor, withHeld, with
 use Rattle.role.specs.Roles.{withFlags}
 use Rattle.service.specs.Service.{withSaved, withRsv2}
 use Rattle.party.specs.Driving.{isActive}
-use Rattle.party.specs.Clearing.{wiped, cleared}
-use Rattle.party.specs.Settling.{changeControl}
+use Rattle.party.specs.Settling.{wiped, cleared, changeControl}
 use Rattle.parties.specs.Lines.{linesByte}
-use Rattle.host_calls.specs.Types.{Request, Acceptor, Aids, Anrs, Awns, Control, Active, Slot, Empty, Full}
-use Rattle.host_calls.specs.Types.{Party, Lines, Outcome, View}
+use Rattle.host_calls.specs.Types.{Request, Acceptor, Aids, Anrs, Awns, Control, Active, Slot, Empty, Full, Party}
+use Rattle.host_calls.specs.Types.{Lines, Outcome, View}
 use Rattle.host_calls.specs.Types.ev
 use Rattle.host_calls.specs.Types.after
 use Rattle.effect.specs.Effects.{say, then, quiet}

@@ -9,13 +9,14 @@ use Rattle.bus.specs.declared.Answer.{Answer}
 use Rattle.bus.specs.declared.Drivers.{Drivers}
 use Rattle.bus.specs.Record.{buildExtended}
 use Rattle.bus.specs.Drivers.{drivers}
-use Rattle.effect.specs.Words.{refusalNumber}
+use Rattle.effect.specs.Calls.{refusalNumber}
 use Rattle.runner.specs.declared.Given.{Given}
 use Rattle.image.specs.Image.{rowsOf, busOf}
 use Rattle.image.proofs.Kept.{kept}
 use Rattle.meskvorn.specs.Packing.{packed}
 use Rattle.meskvorn.specs.Host.{Answered, Gave, maskList, countList, Counted}
-use Rattle.meskvorn.specs.Hosted.{answerOf, turnsOf, Asked, call, run, drivers-of-lines, Reply, answer, turns, driven, Handed, none, called, ran, asked, Same, Hosted, HostedFromBuild}
+use Rattle.meskvorn.specs.Hosted.{answerOf, turnsOf, Asked, call, run, drivers-of-lines, Reply, answer, turns}
+use Rattle.meskvorn.specs.Hosted.{driven, Handed, none, called, ran, asked, Same, Hosted, HostedFromBuild}
 use Rattle.meskvorn.proofs.Sizes.{answer-size, turns-size, drivers-size, build-size}
 
 -- What is said of an answer is said of its equal.

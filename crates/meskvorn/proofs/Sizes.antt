@@ -16,18 +16,17 @@ use Rattle.effect.specs.declared.Effect.{Effect}
 use Rattle.effect.specs.declared.After.{After}
 use Rattle.effect.specs.declared.After.the-variants as after
 use Rattle.effect.specs.declared.Refusal.the-variants as ruling
-use Rattle.effect.specs.Words.{isAccepted}
-use Rattle.effect.specs.Calls.{placeOf}
+use Rattle.effect.specs.Calls.{isAccepted, placeOf}
 use Rattle.accepted.specs.Accepted.{effectOf}
 use Rattle.bus.specs.declared.Bus.{Bus}
 use Rattle.bus.specs.declared.Answer.{Answer}
 use Rattle.bus.specs.Record.{here, lines, built, noParties, refuse, buildExtended}
 use Rattle.addresses.specs.Addresses.{names, placed, badBuild}
-use Rattle.bus.specs.Following.{followed}
+use Rattle.bus.specs.Settling.{followed}
 use Rattle.bus.specs.Drivers.{drivers}
 use Rattle.bus.specs.Machine.{viewAt, call, refusal, accepted, run}
 use Rattle.runner.specs.Waiting.{byPlace}
-use Rattle.turn_laws.specs.Steps.{steps}
+use Rattle.turn_laws.specs.Turns.{steps}
 use Rattle.runner.specs.Runner.{turnsOf, giveTurns}
 use Rattle.orders.specs.Orders.{orderOf, obey, buildFrom, countUp}
 use Rattle.orders.specs.declared.Order.{Order}

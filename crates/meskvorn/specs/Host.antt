@@ -15,7 +15,7 @@ use Rattle.bus.specs.Record.{here, refuse}
 use Rattle.image.specs.Image.{rowsOf}
 use Rattle.refusals.specs.Refusals.{isInside}
 use Rattle.orders.specs.Orders.{orderOf, obey}
-use Rattle.effect.specs.Words.{refusalNumber}
+use Rattle.effect.specs.Calls.{refusalNumber}
 use Rattle.runner.specs.declared.Given.{Given}
 use Rattle.run.specs.declared.Ran.{Ran}
 use Rattle.run.specs.declared.Ran.the-variants.{Wrote, NoRoom}

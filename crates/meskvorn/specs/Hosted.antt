@@ -11,7 +11,7 @@ use Rattle.bus.specs.declared.Bus.{Bus}
 use Rattle.bus.specs.declared.Answer.{Answer}
 use Rattle.bus.specs.Record.{buildExtended}
 use Rattle.bus.specs.Drivers.{drivers}
-use Rattle.effect.specs.Words.{refusalNumber}
+use Rattle.effect.specs.Calls.{refusalNumber}
 use Rattle.runner.specs.declared.Given.{Given}
 use Rattle.runner.specs.Waiting.{byPlace}
 use Rattle.runner.specs.Runner.{giveTurns}

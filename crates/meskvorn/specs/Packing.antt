@@ -6,7 +6,7 @@ use Rattle.names.specs.declared.Secondary.the-variants.{Absent, Given}
 use Rattle.names.specs.declared.Name.{Name}
 use Rattle.party.specs.Parts.{one}
 use Rattle.event.specs.Words.{eventNumber}
-use Rattle.effect.specs.Words.{refusalNumber}
+use Rattle.effect.specs.Calls.{refusalNumber}
 use Rattle.bus.specs.declared.Answer.{Answer}
 
 -- Six bytes as one number, the first the lowest.

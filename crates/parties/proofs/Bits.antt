@@ -6,7 +6,8 @@ use mathlib.Core.List.{List, [], _∷_}
 use Prim.Native.Nat.{ℕ, zero, suc, _+_, _-_, _*_, _/_, _%_, _^_, _≤_, _<_}
 use native.Mathlib.Omega.{arith}
 use native.Mathlib.Numerals.{one-add}
-use native.Mathlib.Nat.{not-suc-le-zero, le-of-suc-le-suc, zero-lt-suc, zero-add, add-zero, add-suc, suc-add, pow-suc, zero-div, div-one, div-eq-of-lt}
+use native.Mathlib.Nat.{not-suc-le-zero, le-of-suc-le-suc, zero-lt-suc, zero-add, add-zero, add-suc, suc-add, pow-suc}
+use native.Mathlib.Nat.{zero-div, div-one, div-eq-of-lt}
 use lib.ListN.{length}
 use lib.Dec.{ltb, eqb, lit<}
 use lib.Pow.{pow-mono, shr-shr, shl-exact}
@@ -18,7 +19,7 @@ use Rattle.party.specs.Parts.{one}
 use Rattle.role.proofs.Logic.{test}
 use Rattle.parties.specs.Types.{Party, Nowhere, At}
 use Rattle.parties.specs.Places.{place, at, some, firstFrom}
-use Rattle.parties.specs.Masks.{bits, mask, countFrom, isOn}
+use Rattle.parties.specs.Lines.{bits, mask, countFrom, isOn}
 use Rattle.parties.specs.Sweeping.{pushed, without, firstOf}
 
 one-le : (b : Bool) → one b ≤ 1

@@ -14,8 +14,7 @@ use Rattle.party.specs.Driving.{isActive, drivesDav, drivesNrfd, drivesNdac, dr
 use Rattle.role.proofs.Logic.{test, cond-elim}
 use Rattle.parties.specs.Types.{Party, Sweep}
 use Rattle.parties.specs.Places.{at, some, talks, otherTalker, within}
-use Rattle.parties.specs.Lines.{scanOf}
-use Rattle.parties.specs.Masks.{bits, mask, isOn}
+use Rattle.parties.specs.Lines.{scanOf, bits, mask, isOn}
 use Rattle.parties.specs.Sweeping.{sweepOf, pushed, sweptBy, without, firstOf, told}
 use Rattle.parties.proofs.Loops.{within-same, all-15, some-all, other-all}
 use Rattle.parties.proofs.Bits.{down, some-mask, first-mask, without-mask}

@@ -2,5 +2,4 @@
 pub mod Types
 pub mod Places
 pub mod Lines
-pub mod Masks
 pub mod Sweeping

@@ -6,8 +6,7 @@ use mathlib.Core.List.{List, [], _∷_}
 use lib.ListN.{getD, set}
 use lib.Dec.{ltb}
 use Rattle.party.specs.Parts.{idle}
-use Rattle.party.specs.Settling.{attended, settled}
-use Rattle.party.specs.Clearing.{cleared}
+use Rattle.party.specs.Settling.{attended, settled, cleared}
 use Rattle.parties.specs.Types.{Place, Party, Found, Nowhere, At, Change, Attend, Clear}
 
 abbrev pub place : ℕ → Place

@@ -9,7 +9,7 @@ use Rattle.party.specs.Parts.{one}
 use Rattle.party.specs.Driving.{isActive, drivesDav, drivesNrfd, drivesNdac, drivesSrq}
 use Rattle.parties.specs.Types.{Party, Found, Nowhere, At, Masks, Sweep, Scan}
 use Rattle.parties.specs.Places.{place, at, talks}
-use Rattle.parties.specs.Masks.{mask, isOn}
+use Rattle.parties.specs.Lines.{mask, isOn}
 
 -- What the pass over n parties finds.
 abbrev pub sweepOf : ℕ → List Party → Sweep

@@ -3,7 +3,7 @@ ghost use mathlib.Core.Path.{_≡_};
 ghost use mathlib.Core.Bool.{_||_};
 ghost use Prim.Native.Nat.{_≤_, _<_};
 ghost use lib.ListN.{set};
-ghost use Rattle.party.specs.Clearing.{clearDrops};
+ghost use Rattle.party.specs.Settling.{clearDrops};
 ghost use Rattle.parties.specs.Places.{at, each, total, within, slot, changed, isFound};
 use crate::Change;
 use crate::Found;

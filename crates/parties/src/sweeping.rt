@@ -3,7 +3,7 @@ ghost use mathlib.Core.Path.{_≡_};
 ghost use mathlib.Core.Bool.{cond};
 ghost use lib.Dec.{eqb};
 ghost use Rattle.parties.specs.Places.{within};
-ghost use Rattle.parties.specs.Masks.{mask, isOn, countsOf};
+ghost use Rattle.parties.specs.Lines.{mask, isOn, countsOf};
 ghost use Rattle.parties.specs.Sweeping.{sweepOf, pushed, sweptBy, without, firstOf, told, masksWith};
 use crate::Counts;
 use crate::Found;

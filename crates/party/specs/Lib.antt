@@ -2,7 +2,5 @@
 pub mod Types
 pub mod Parts
 pub mod Driving
-pub mod Hearing
 pub mod Sending
 pub mod Settling
-pub mod Clearing

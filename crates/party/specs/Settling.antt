@@ -1,10 +1,13 @@
--- Attention and settling, of one party (document 01, "Attention and settling").
+-- Attention, settling, reset and interface clear, of one party (document 01, "Attention and settling", "The host's calls").
 -- Assumes nothing.
+use Prim.Native.Nat.{ℕ}
 use mathlib.Core.Bool.{Bool, true, false, cond}
-use Rattle.role.specs.Roles.{withMark}
-use Rattle.service.specs.Service.{requestSettled}
-use Rattle.party.specs.Types.{Party, Control, Empty, Unmarked, Source, Sids, Sgns, Sdys, Strs, Acceptor, Aids, Anrs}
-use Rattle.party.specs.Parts.{withRole, withControl, withSource, withAcceptor, withHeld, withRequest}
+use Rattle.role.specs.Roles.{withMark, unaddressed}
+use Rattle.service.specs.Service.{requestSettled, withRsv2}
+use Rattle.party.specs.Types.{Party, Control, Empty, Unmarked, Source, Sids, Sgns, Sdys, Strs, Acceptor, Aids}
+use Rattle.party.specs.Types.{Anrs, Idle}
+use Rattle.party.specs.Parts.{withRole, withControl, withSource, withAcceptor, withHeld, withRequest, heldBytes}
+use Rattle.party.specs.Parts.{withInput}
 use Rattle.party.specs.Driving.{isActive}
 use Rattle.party.specs.Sending.{isSource, isPolled}
 
@@ -31,3 +34,15 @@ sourceSettled false s = Sids
 -- A party after it settles, with ATN as the call left it.
 abbrev pub settled : Bool → Party → Party
 settled atn p = withRequest (requestSettled (isPolled atn p) (p .request)) (withSource (sourceSettled (isSource atn p) (p .source)) p)
+
+-- "Reset: flags off, control idle, held byte dropped, data-in emptied, poll register kept". Document 02, Q-3: it clears the marks too, "and so do reset,
+-- interface clear"; Q-5: "Reset clears rsv2."
+abbrev pub wiped : Party → Party
+wiped p = withRole (unaddressed (p .role .name)) (withControl Idle (withHeld Empty (withInput Empty (withRequest (withRsv2 false (p .request)) p))))
+
+-- "Interface clear: talk, listen and poll mode off everywhere, all control idle": a party that stops being active loses its held byte.
+abbrev pub cleared : Party → Party
+cleared p = withHeld (cond (isActive p) Empty (p .held)) (withRole (unaddressed (p .role .name)) (withControl Idle p))
+
+abbrev pub clearDrops : Party → ℕ
+clearDrops p = cond (isActive p) (heldBytes p) 0

@@ -2,8 +2,7 @@
 ghost use mathlib.Core.Path.{_≡_};
 ghost use Prim.Native.Nat.{_≤_};
 ghost use Rattle.party.specs.Parts.{one, heldBytes};
-ghost use Rattle.party.specs.Clearing.{wiped, cleared, clearDrops};
-ghost use Rattle.party.specs.Settling.{changeControl};
+ghost use Rattle.party.specs.Settling.{wiped, cleared, clearDrops, changeControl};
 use crate::Control;
 use crate::Party;
 use offer::Slot;

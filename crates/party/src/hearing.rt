@@ -1,6 +1,6 @@
 // Hearing, of one party.
 ghost use mathlib.Core.Path.{_≡_};
-ghost use Rattle.party.specs.Hearing.{partyHeard};
+ghost use Rattle.party.specs.Sending.{partyHeard};
 use crate::Party;
 use message::meaning_of;
 

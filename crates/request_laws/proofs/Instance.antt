@@ -10,7 +10,7 @@ use borrow.Author.Tests.{eqb-true, eqb-false}
 use Rattle.message.specs.Meaning.{meaningOf, sevenBits, named}
 use Rattle.service.specs.Service.{rsv}
 use Rattle.role.proofs.Logic.{no}
-use Rattle.effect.specs.Words.{actNumber}
+use Rattle.effect.specs.Calls.{actNumber}
 use Rattle.bus.specs.Types.{Call}
 use Rattle.bus.specs.Types.call-of
 use Rattle.bus.specs.Types.act-of

@@ -17,20 +17,17 @@ use Rattle.role.proofs.Logic.{no, test, cond-elim}
 use Rattle.party.specs.Parts.{idle}
 use Rattle.party.specs.Driving.{isActive}
 use Rattle.party.specs.Sending.{isPolled}
-use Rattle.party.specs.Settling.{attended, settled, changeControl}
-use Rattle.party.specs.Clearing.{cleared}
+use Rattle.party.specs.Settling.{attended, settled, changeControl, cleared}
 use Rattle.parties.specs.Places.{place, at, some, each, otherTalker}
 use Rattle.parties.proofs.Places.{upd, at-set, each-below, length-each, set-part, each-part, some-set, some-each}
-use Rattle.effect.specs.Words.{isAccepted}
-use Rattle.effect.specs.Calls.{placeOf}
+use Rattle.effect.specs.Calls.{isAccepted, placeOf}
 use Rattle.refusals.specs.Refusals.{ofSwitch}
 use Rattle.host_calls.specs.HostCalls.{secondRequest}
 use Rattle.effect.specs.Effects.{withStanding}
 use Rattle.accepted.specs.Accepted.{effectOf}
 use Rattle.bus.specs.Record.{here, lines, refuse}
 use Rattle.effect.specs.Stands.{stands}
-use Rattle.bus.specs.Settling.{settleBusAs, deserted, attend}
-use Rattle.bus.specs.Following.{followed}
+use Rattle.bus.specs.Settling.{settleBusAs, deserted, attend, followed}
 use Rattle.bus.specs.Machine as m
 use Rattle.bus.proofs.Invariant.{Inv, atnOf}
 use Rattle.bus.proofs.Accepting.{known}
@@ -44,7 +41,8 @@ use Rattle.bus.specs.Types.after
 use Rattle.bus.specs.Types.call-of
 use Rattle.bus.specs.Types.act-of
 use Rattle.request_laws.specs.Requests.{polledOn}
-use Rattle.request_laws.proofs.Asked.{isStat, asked, Fair, Reports, Turn, silent, reports, step-turn, Leaves, leaves}
+use Rattle.request_laws.proofs.Asked.{isStat, asked, Fair, Reports, Turn, silent, reports, step-turn, Leaves}
+use Rattle.request_laws.proofs.Asked.{leaves}
 
 -- every party has settled with the request q that the call left it
 abbrev Settles : Bus → Bus → (ℕ → Request) → Type 0

@@ -5,8 +5,7 @@ use mathlib.Core.Bool.{Bool, true, false}
 use mathlib.Core.Logic.{_⊎_, inl, inr}
 use Rattle.role.specs.Types.{Secondary, Absent, Given, Mark, Unmarked, TalkPrimary, ListenPrimary, Role}
 use Rattle.names.proofs.Clashes.{isExtended}
-use Rattle.role.specs.Roles.{withFlags}
-use Rattle.role.specs.Hearing.{markOf, listenAddressed, talkAddressed, seconded}
+use Rattle.role.specs.Roles.{withFlags, markOf, listenAddressed, talkAddressed, seconded}
 use Rattle.role.proofs.Logic.{no}
 
 abbrev pub talkPrimary : Mark → Bool

@@ -6,15 +6,18 @@ use mathlib.Core.Bool.{Bool, true, false, _||_}
 use mathlib.Core.Logic.{_⊎_, inl, inr}
 use Prim.Native.Nat.{ℕ, _<_}
 use borrow.Author.Tests.{eqb-true}
-use Rattle.message.specs.declared.Meaning.the-variants.{Other, Listen, Unlisten, Talk, Untalk, Sdc, Get, Tct, Dcl, Spe, Spd, Second, Neither}
+use Rattle.message.specs.declared.Meaning.the-variants.{Other, Listen, Unlisten, Talk, Untalk, Sdc, Get, Tct, Dcl, Spe}
+use Rattle.message.specs.declared.Meaning.the-variants.{Spd, Second, Neither}
 use Rattle.role.specs.Types.{Address, SecondaryAddress, Meaning, Name, Role, Event}
 use Rattle.role.specs.Types.ev
 use Rattle.names.specs.Names.{meets, clashes}
 use Rattle.names.proofs.Clashes.{isExtended, meets-extended, given-meets, same-clash}
-use Rattle.role.specs.Roles.{unaddressed, withFlags}
-use Rattle.role.specs.Hearing.{owns, ownsSecondary, markAfter, roleHeard, hearEvent, passesControl}
+use Rattle.role.specs.Roles.{unaddressed, withFlags, owns, ownsSecondary, markAfter, roleHeard, hearEvent}
+use Rattle.role.specs.Roles.{passesControl}
 use Rattle.role.proofs.Logic.{no, test, cond-elim, or-left, or-right}
-use Rattle.role.proofs.Cases.{talkPrimary, listen-elim, talk-elim, second-elim, listen-weak, talk-weak, second-weak, listen-unmarked, listen-talk, talk-talk, talk-mark, talk-sets, second-talk}
+use Rattle.role.proofs.Cases.{talkPrimary, listen-elim, talk-elim, second-elim, listen-weak, talk-weak}
+use Rattle.role.proofs.Cases.{second-weak, listen-unmarked, listen-talk, talk-talk, talk-mark, talk-sets}
+use Rattle.role.proofs.Cases.{second-talk}
 
 -- What a build fixes of a role.
 abbrev pub nameOf : Role → Name

@@ -1,4 +1,3 @@
 -- A role, and hearing.
 pub mod Types
 pub mod Roles
-pub mod Hearing

@@ -1,6 +1,6 @@
 // Addressing: what the own primary and a secondary do to who hears them.
 ghost use mathlib.Core.Path.{_≡_};
-ghost use Rattle.role.specs.Hearing.{owns, ownsSecondary, markOf, listenAddressed, talkAddressed, seconded};
+ghost use Rattle.role.specs.Roles.{owns, ownsSecondary, markOf, listenAddressed, talkAddressed, seconded};
 use crate::Mark;
 use crate::Role;
 use message::Address;

@@ -1,6 +1,6 @@
 // Hearing: what a command does to who hears it.
 ghost use mathlib.Core.Path.{_≡_};
-ghost use Rattle.role.specs.Hearing.{markAfter, addressed, roleHeard, hearEvent, passesControl};
+ghost use Rattle.role.specs.Roles.{markAfter, addressed, roleHeard, hearEvent, passesControl};
 use crate::Mark;
 use crate::Role;
 use crate::addressing::mark_of;

@@ -4,8 +4,7 @@ use mathlib.Core.Path.{refl}
 use Rattle.event.specs.Words.{codes, wordText}
 use Rattle.text.specs.Text.{decimalOf, numberText, byteText, headText, eventText, countsText, lineOf}
 use Rattle.orders.specs.Orders.{orderOf, countUp, buildFrom, obey}
-use Rattle.run.specs.Script.{answerTo}
-use Rattle.run.specs.Run.{records, textFrom, textOf}
+use Rattle.run.specs.Run.{answerTo, records, textFrom, textOf}
 use Rattle.run.specs.Examples.{Holds}
 
 pub examples : Holds

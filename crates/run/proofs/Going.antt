@@ -12,8 +12,7 @@ use Rattle.reader.specs.Record.{recordAt}
 use Rattle.text.specs.Text.{Wrote, lineOf}
 use Rattle.text.proofs.Laws.{joined, same-size}
 use Rattle.text.proofs.Lengths.{line-length}
-use Rattle.run.specs.Script.{answerTo}
-use Rattle.run.specs.Run.{records, textFrom}
+use Rattle.run.specs.Run.{answerTo, records, textFrom}
 use Rattle.run.proofs.Records.{next, turn}
 
 pub record Going (s out₀ out : List ℕ) (b : Bus) (at n place : ℕ) : Type 0 where

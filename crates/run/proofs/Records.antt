@@ -14,8 +14,7 @@ use borrow.Author.Tests.{ltb-true, ltb-false, lt-ltb}
 use Rattle.reader.specs.declared.Next.{Next}
 use Rattle.reader.specs.declared.Next.the-variants.{Record, Bad}
 use Rattle.reader.specs.Record.{recordAt}
-use Rattle.run.specs.Script.{afterOf}
-use Rattle.run.specs.Run.{records}
+use Rattle.run.specs.Run.{afterOf, records}
 
 -- fewer than 6 bytes are one bad record
 short : (l : List ℕ) → 0 < length l → length l < 6 → records l ≡ Bad ∷ []

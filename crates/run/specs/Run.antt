@@ -1,4 +1,4 @@
--- What busrun prints, for every list of bytes (document 01, "The bus script").
+-- A whole script: its records, what each is answered, and the text of the answers (document 01, "The bus script").
 -- Assumes nothing.
 use Prim.Native.Nat.{ℕ, _+_, _*_, _/_, _<_}
 use mathlib.Core.Path.{_≡_}
@@ -8,13 +8,26 @@ use lib.Dec.{ltb, eqb}
 use lib.ListN.{length, drop}
 use Rattle.effect.specs.declared.Refusal.the-variants as ruling
 use Rattle.bus.specs.declared.Bus.{Bus}
-use Rattle.bus.specs.Record.{noParties, refuse}
+use Rattle.bus.specs.declared.Answer.{Answer}
+use Rattle.bus.specs.Record.{refuse, noParties}
 use Rattle.reader.specs.declared.Next.{Next}
-use Rattle.reader.specs.declared.Next.the-variants.{Record, Bad}
+use Rattle.reader.specs.declared.Next.the-variants.{Record, Bad, End}
 use Rattle.text.specs.Text.{lineOf}
-use Rattle.run.specs.Script.{answerTo}
+use Rattle.orders.specs.Orders.{orderOf, obey}
 use Rattle.run.specs.declared.Ran.{Ran}
 use Rattle.run.specs.declared.Ran.the-variants as ran
+
+-- "A wrong mark or short tail prints its line with 10"
+unfoldable pub answerTo : Bus → Next → Answer
+answerTo b (Record op party value extra) = obey b (orderOf op party value extra)
+answerTo b Bad = refuse ruling.Record b
+answerTo b End = refuse ruling.Record b
+
+-- The place after a record in a script of len bytes: what is bad ".. ends the run".
+abbrev pub afterOf : Next → ℕ → ℕ → ℕ
+afterOf (Record op party value extra) at len = at + 6
+afterOf Bad at len = len
+afterOf End at len = len
 
 -- The records of a script: "A record is 6 bytes: mark 47 42 (hexadecimal), operation, party, value, extra." What is none is the last.
 unfoldable pub records : List ℕ → List Next

@@ -24,9 +24,8 @@ use Rattle.runner.specs.Types.{Party, Event, Bus}
 use Rattle.runner.specs.Types.ruling
 use Rattle.runner.specs.Types.ev
 use Rattle.runner.specs.Types.call-of
-use Rattle.runner.specs.Waiting.{TieOrder, byPlace}
-use Rattle.runner.specs.RoundRobin.{Orders, inOrder}
-use Rattle.turn_laws.specs.Steps.{stepOf, steps}
+use Rattle.runner.specs.Waiting.{TieOrder, byPlace, Orders, inOrder}
+use Rattle.turn_laws.specs.Turns.{stepOf, steps}
 use Rattle.runner.specs.Runner.{turnsOf}
 use Rattle.runner.specs.Bound.{Offered, EndsWithin, EndsSoon, Bound, BoundByPlace}
 use Rattle.runner.proofs.Members.{member}

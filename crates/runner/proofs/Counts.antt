@@ -13,7 +13,7 @@ use Rattle.party.specs.Parts.{one}
 use Rattle.bus.specs.Machine as m
 use Rattle.bus.specs.Delivery.{tally, history}
 use Rattle.runner.specs.Types.{Bus}
-use Rattle.turn_laws.specs.Steps.{stepOf, steps}
+use Rattle.turn_laws.specs.Turns.{stepOf, steps}
 use Rattle.runner.specs.Runner.{turnsOf, counted, isStepOf, Counts}
 use Rattle.runner.proofs.Queue.{wait-zero}
 

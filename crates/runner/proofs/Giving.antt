@@ -16,7 +16,7 @@ use Rattle.bus.specs.Machine as m
 use Rattle.runner.specs.Types.{Bus, Answer, Given}
 use Rattle.runner.specs.Types.ruling
 use Rattle.runner.specs.Waiting.{byPlace, turns}
-use Rattle.turn_laws.specs.Steps.{stepOf, steps}
+use Rattle.turn_laws.specs.Turns.{stepOf, steps}
 use Rattle.runner.specs.Runner.{counted, giveTurns}
 use Rattle.runner.proofs.Queue.{wait-zero}
 use Rattle.runner.proofs.InOrder.{place-orders, round-robin, turn-by-place}

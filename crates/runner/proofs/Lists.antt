@@ -7,7 +7,7 @@ use Rattle.bus.specs.Record.{buildExtended}
 use Rattle.bus.specs.Machine as m
 use Rattle.bus.proofs.Theorem.{delivery}
 use Rattle.runner.specs.Types.{Bus, Call}
-use Rattle.turn_laws.specs.Steps.{stepOf, steps}
+use Rattle.turn_laws.specs.Turns.{stepOf, steps}
 use Rattle.runner.specs.Runner.{turnsOf, giveTurns}
 use Rattle.runner.specs.Lists.{call, run, expanded, StandsForSteps, DeliveryWithRuns}
 

@@ -11,8 +11,7 @@ use lib.ListN.{length}
 use lib.Dec.{ltb, eqb}
 use borrow.Author.Tests.{eqb-true, eqb-false, eq-eqb, ltb-true, ltb-false, lt-ltb}
 use Rattle.role.proofs.Logic.{no, test, cond-elim, both, or-right}
-use Rattle.runner.specs.Waiting.{TieOrder, waitOf, goesBefore, longestOf, longestWaiting}
-use Rattle.runner.specs.RoundRobin.{Orders, LongestFound}
+use Rattle.runner.specs.Waiting.{TieOrder, waitOf, goesBefore, longestOf, longestWaiting, Orders, LongestFound}
 
 -- what the test says, of the two waits and the tie
 says : (a b : ℕ) (t : Bool) → (ltb b a || (eqb a b && t)) ≡ true → (b < a) ⊎ ((a ≡ b) × (t ≡ true))

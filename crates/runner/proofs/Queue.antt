@@ -11,9 +11,9 @@ use lib.Seq.{getD-set-same, getD-set-other}
 use lib.Dec.{ltb, eqb}
 use borrow.Author.Tests.{eqb-true, eqb-false, eq-eqb, ne-eqb, ltb-true, ltb-false, lt-ltb, le-ltb}
 use Rattle.role.proofs.Logic.{no, test, or-right}
-use Rattle.runner.specs.Waiting.{TieOrder, waitOf, goesBefore, longestWaiting, waited, turnsFrom}
-use Rattle.runner.specs.RoundRobin.{Orders}
-use Rattle.runner.proofs.Members.{member, distinct, Chain, first-in, member-append, split, or-other, apart, distinct-snoc, chain-snoc, chain-map}
+use Rattle.runner.specs.Waiting.{TieOrder, waitOf, goesBefore, longestWaiting, waited, turnsFrom, Orders}
+use Rattle.runner.proofs.Members.{member, distinct, Chain, first-in, member-append, split, or-other, apart}
+use Rattle.runner.proofs.Members.{distinct-snoc, chain-snoc, chain-map}
 use Rattle.runner.proofs.Longest.{chosen}
 
 pub record Queue (tie : TieOrder) (n : ℕ) (ws : List ℕ) (q : List ℕ) : Type 0 where

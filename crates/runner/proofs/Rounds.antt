@@ -14,7 +14,7 @@ use Rattle.bus.specs.Record.{here}
 use Rattle.bus.specs.Machine as m
 use Rattle.bus.specs.Delivery.{isPut}
 use Rattle.runner.specs.Types.{Party, Sgns, Sdys, Bus}
-use Rattle.turn_laws.specs.Steps.{stepOf}
+use Rattle.turn_laws.specs.Turns.{stepOf}
 use Rattle.runner.proofs.Members.{member, first-in}
 use Rattle.runner.proofs.Ranks.{rank, left, sourceRank, rank-top, left-top}
 use Rattle.runner.proofs.Talker.{Lowers}

@@ -18,7 +18,7 @@ use Rattle.runner.specs.Types.ev
 use Rattle.runner.specs.Types.call-of
 use Rattle.runner.specs.Types.act-of
 use Rattle.runner.specs.Waiting.{byPlace, longestWaiting, turns}
-use Rattle.turn_laws.specs.Steps.{steps}
+use Rattle.turn_laws.specs.Turns.{steps}
 use Rattle.runner.specs.Runner.{turnsOf, giveTurns}
 use Rattle.runner.specs.Bound.{Offered}
 use Rattle.runner.specs.Lists.{Act, call, run, acted}

@@ -9,7 +9,7 @@ use Rattle.bus.specs.Delivery.{Delivered}
 use Rattle.runner.specs.Types.{Place, Name, Bus, Call}
 use Rattle.runner.specs.Types.ruling
 use Rattle.runner.specs.Waiting.{TieOrder}
-use Rattle.turn_laws.specs.Steps.{steps}
+use Rattle.turn_laws.specs.Turns.{steps}
 use Rattle.runner.specs.Runner.{turnsOf, giveTurns}
 
 -- What a host does: a call, or a run of so many turns.

@@ -8,10 +8,10 @@ use lib.Dec.{eqb}
 use lib.ListN.{getD, set, replicate}
 use Rattle.party.specs.Parts.{one}
 use Rattle.parties.specs.Places.{within}
-use Rattle.effect.specs.Words.{actNumber}
+use Rattle.effect.specs.Calls.{actNumber}
 use Rattle.bus.specs.Machine as m
 use Rattle.bus.specs.Delivery.{tally, history}
-use Rattle.turn_laws.specs.Steps.{steps}
+use Rattle.turn_laws.specs.Turns.{steps}
 use Rattle.runner.specs.Types.{Bus, Call, Refusal, Given}
 use Rattle.runner.specs.Types.ruling
 use Rattle.runner.specs.Types.call-of

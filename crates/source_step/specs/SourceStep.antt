@@ -3,14 +3,13 @@
 use Prim.Native.Nat.{ℕ}
 use mathlib.Core.Bool.{Bool, cond}
 use Rattle.message.specs.Meaning.{meaningOf}
-use Rattle.role.specs.Hearing.{passesControl}
+use Rattle.role.specs.Roles.{passesControl}
 use Rattle.offer.specs.Offer.{isFull, kindOf, endOf, putEvent}
 use Rattle.party.specs.Parts.{withSource}
 use Rattle.party.specs.Driving.{isActive}
-use Rattle.party.specs.Hearing.{partyHeard}
-use Rattle.party.specs.Sending.{isPolled, offer, parted}
-use Rattle.source_step.specs.Types.{Source, Sids, Sgns, Sdys, Strs, Slot, Empty, Full, Kind}
-use Rattle.source_step.specs.Types.{Found, Nowhere, At, Standing, Nothing, Byte, After, Effect, View}
+use Rattle.party.specs.Sending.{partyHeard, isPolled, offer, parted}
+use Rattle.source_step.specs.Types.{Source, Sids, Sgns, Sdys, Strs, Slot, Empty, Full, Kind, Found, Nowhere, At}
+use Rattle.source_step.specs.Types.{Standing, Nothing, Byte, After, Effect, View}
 use Rattle.source_step.specs.Types.ev
 use Rattle.source_step.specs.Types.after
 use Rattle.effect.specs.Stands.{ofCommand}

@@ -14,7 +14,7 @@ use Rattle.party.specs.Parts.{one}
 use Rattle.bus.specs.declared.Answer.{Answer}
 use Rattle.effect.specs.declared.Refusal.{Refusal}
 use Rattle.effect.specs.declared.Refusal.the-variants as R
-use Rattle.effect.specs.Words.{refusalNumber}
+use Rattle.effect.specs.Calls.{refusalNumber}
 use Rattle.text.specs.Text.{digitOf, decimalOf, numberText, byteText, headText, eventText, countsText, lineOf}
 
 at-most-five : (a b c d e : ℕ) (p q r s : Bool) → length (cond p (a ∷ []) (cond q (b ∷ a ∷ []) (cond r (c ∷ b ∷ a ∷ []) (cond s (d ∷ c ∷ b ∷ a ∷ []) (e ∷ d ∷ c ∷ b ∷ a ∷ []))))) ≤ 5

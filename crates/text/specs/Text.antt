@@ -12,7 +12,7 @@ use Rattle.event.specs.declared.Event.{Event}
 use Rattle.event.specs.Words.{wordText, hasByte}
 use Rattle.party.specs.Parts.{one}
 use Rattle.effect.specs.declared.Refusal.{Refusal}
-use Rattle.effect.specs.Words.{refusalNumber}
+use Rattle.effect.specs.Calls.{refusalNumber}
 use Rattle.bus.specs.declared.Answer.{Answer}
 
 -- What writing a text at a place does: after is before with the text stored from that place on, and r is the place behind it, still inside the buffer.

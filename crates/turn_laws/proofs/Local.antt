@@ -23,8 +23,7 @@ use Rattle.source_step.specs.SourceStep.{sourceStep}
 use Rattle.acceptor_step.specs.AcceptorStep.{takes, acceptorIn, acceptorStep}
 use Rattle.accepted.specs.Accepted.{step}
 use Rattle.bus.specs.Record.{here, lines, refuse}
-use Rattle.bus.specs.Settling.{answered, deserted}
-use Rattle.bus.specs.Following.{settle, follow}
+use Rattle.bus.specs.Settling.{answered, deserted, settle, follow}
 use Rattle.bus.specs.Machine as m
 use Rattle.bus.proofs.Invariant.{Inv, atnOf}
 use Rattle.bus.proofs.EachCall.{call-good}
@@ -34,7 +33,7 @@ use Rattle.bus.specs.declared.Answer.{Answer}
 use Rattle.bus.specs.Types.{Party, Acceptor, Aids, Anrs, Acrs, Acds, Awns, Standing, Nothing, Byte, Effect, Said, View}
 use Rattle.bus.specs.Types.after
 use Rattle.bus.specs.Types.ruling
-use Rattle.turn_laws.specs.Steps.{stepOf}
+use Rattle.turn_laws.specs.Turns.{stepOf}
 
 each-set : (n : ℕ) (f : Party → Party) (ps : List Party) (i : ℕ) (q : Party) → i < n → ((j : ℕ) → f (at ps j) ≡ at ps j) → each n f (set ps i q) ≡ set ps i (f q)
 each-set zero f ps i q l h = absurd (not-suc-le-zero l)

@@ -12,12 +12,10 @@ use Rattle.role.proofs.Roles.{hear-name}
 use Rattle.offer.specs.Offer.{isFull, kindOf}
 use Rattle.party.specs.Driving.{isActive}
 use Rattle.party.specs.Sending.{isSource, isPolled, offer}
-use Rattle.party.specs.Settling.{attended, settled, changeControl}
-use Rattle.party.specs.Clearing.{cleared}
+use Rattle.party.specs.Settling.{attended, settled, changeControl, cleared}
 use Rattle.parties.specs.Places.{at, some, each, otherTalker}
 use Rattle.parties.proofs.Places.{set-part, each-part}
-use Rattle.effect.specs.Words.{isAccepted}
-use Rattle.effect.specs.Calls.{placeOf}
+use Rattle.effect.specs.Calls.{isAccepted, placeOf}
 use Rattle.effect.specs.Stands.{ofCommand}
 use Rattle.effect.specs.Effects.{withStanding}
 use Rattle.source_step.specs.SourceStep.{ready, ended, sourceIn}
@@ -26,17 +24,18 @@ use Rattle.accepted.specs.Accepted.{effectOf}
 use Rattle.host_calls.specs.HostCalls.{readOut}
 use Rattle.addresses.specs.Addresses.{badBuild}
 use Rattle.bus.specs.Record.{here, lines, buildExtended}
-use Rattle.bus.specs.Following.{followed}
+use Rattle.bus.specs.Settling.{followed}
 use Rattle.bus.specs.Machine as m
 use Rattle.bus.specs.declared.Bus.{Bus}
 use Rattle.bus.specs.declared.Answer.{Answer}
-use Rattle.bus.specs.Types.{Name, Party, Idle, Active, Source, Sids, Sgns, Sdys, Strs, Acceptor, Aids, Anrs, Acrs, Acds, Awns, Slot, Empty, Full, Kind, Standing, Nothing, Byte, Call, After, Outcome, Effect, View}
+use Rattle.bus.specs.Types.{Name, Party, Idle, Active, Source, Sids, Sgns, Sdys, Strs, Acceptor, Aids, Anrs, Acrs, Acds}
+use Rattle.bus.specs.Types.{Awns, Slot, Empty, Full, Kind, Standing, Nothing, Byte, Call, After, Outcome, Effect, View}
 use Rattle.bus.specs.Types.ruling
 use Rattle.bus.specs.Types.after
 use Rattle.bus.specs.Types.call-of
 use Rattle.bus.specs.Types.act-of
 use Rattle.bus.proofs.Built.{placed-at, fits}
-use Rattle.turn_laws.specs.Named.{nameAt, Named}
+use Rattle.turn_laws.specs.Turns.{nameAt, Named}
 
 abbrev nameOf : Party → Name
 nameOf p = p .role .name

@@ -20,19 +20,19 @@ use Rattle.effect.specs.Effects.{say}
 use Rattle.source_step.specs.SourceStep.{put, noacc, ready, ended, sourceIn}
 use Rattle.acceptor_step.specs.AcceptorStep.{takes, acceptorIn}
 use Rattle.bus.specs.Record.{here, lines, buildExtended}
-use Rattle.bus.specs.Settling.{answered}
-use Rattle.bus.specs.Following.{follow}
+use Rattle.bus.specs.Settling.{answered, follow}
 use Rattle.bus.specs.Machine as m
 use Rattle.bus.proofs.Invariant.{Inv, atnOf, quiet}
 use Rattle.bus.proofs.Putting.{nothing-stands}
 use Rattle.bus.proofs.Reached.{reached, one-source}
 use Rattle.bus.specs.declared.Bus.{Bus}
 use Rattle.bus.specs.declared.Answer.{Answer}
-use Rattle.bus.specs.Types.{Party, Source, Sids, Sgns, Sdys, Strs, Acceptor, Aids, Anrs, Acrs, Acds, Awns, Slot, Empty, Full, Kind, Command, Data, Status, Event, Standing, Nothing, Byte, Said, After, Effect, View}
+use Rattle.bus.specs.Types.{Party, Source, Sids, Sgns, Sdys, Strs, Acceptor, Aids, Anrs, Acrs, Acds, Awns, Slot, Empty}
+use Rattle.bus.specs.Types.{Full, Kind, Command, Data, Status, Event, Standing, Nothing, Byte, Said, After, Effect}
+use Rattle.bus.specs.Types.{View}
 use Rattle.bus.specs.Types.ev
 use Rattle.bus.specs.Types.after
-use Rattle.turn_laws.specs.Steps.{stepOf, steps}
-use Rattle.turn_laws.specs.Noacc.{Alone, kept, Keeps, KeepsByte}
+use Rattle.turn_laws.specs.Turns.{stepOf, steps, Alone, kept, Keeps, KeepsByte}
 use Rattle.turn_laws.proofs.Local.{local, touch-local, no-step, source-step, as-local, event-of}
 
 -- who drives neither NRFD nor NDAC takes no part

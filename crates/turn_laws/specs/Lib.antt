@@ -1,5 +1,3 @@
 -- The calls that give a turn, and what is proved of a step: what it changes, and what it leaves.
-pub mod Steps
-pub mod Noacc
-pub mod Named
+pub mod Turns
 pub mod Examples

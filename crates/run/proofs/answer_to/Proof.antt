@@ -1,7 +1,7 @@
 use borrow.Author.Needs.{needs}
 use Rattle.run.proofs.answer_to.Statement.{statement}
 use Rattle.run.proofs.answer_to.Tie as tie
-use Rattle.run.specs.Script.{answerTo}
+use Rattle.run.specs.Run.{answerTo}
 
 returns : tie.Need-returns
 unfolding answerTo

@@ -7,7 +7,7 @@ use lib.ListN.{length}
 use Rattle.reader.specs.declared.Next.{Next}
 use Rattle.text.proofs.Laws.{same-size}
 use Rattle.bus.specs.declared.Answer.{Answer}
-use Rattle.run.specs.Script.{answerTo, afterOf}
+use Rattle.run.specs.Run.{answerTo, afterOf}
 use Rattle.run.proofs.Records.{next, turn}
 use Rattle.run.proofs.Going.{Going, start, fits, again, ends}
 use borrow.Author.Needs.{needs}

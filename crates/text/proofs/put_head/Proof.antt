@@ -2,7 +2,7 @@ use borrow.Author.Needs.{needs}
 use Rattle.text.proofs.put_head.Statement.{statement}
 use Rattle.text.proofs.put_head.Tie as tie
 use Rattle.text.proofs.Laws.{joined, room, first}
-use Rattle.effect.specs.Words.{refusalNumber}
+use Rattle.effect.specs.Calls.{refusalNumber}
 use Rattle.text.specs.Text.{headText, numberText}
 
 put-number-requires : tie.Need-put-number-requires

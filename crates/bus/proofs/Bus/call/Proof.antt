@@ -1,7 +1,6 @@
 use mathlib.Core.Path.{_≡_, refl, sym, ap, _∙_}
 use mathlib.Core.Bool.{true, false}
-use Rattle.effect.specs.Words.{isAccepted}
-use Rattle.effect.specs.Calls.{placeOf}
+use Rattle.effect.specs.Calls.{isAccepted, placeOf}
 use Rattle.effect.specs.Stands.{hasEnd}
 use lib.ListN.{length}
 use Rattle.parties.specs.Lines.{scanOf}

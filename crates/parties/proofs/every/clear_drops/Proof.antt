@@ -3,7 +3,7 @@ use Prim.Native.Nat.{_+_, _≤_, _-_}
 use mathlib.Core.Path.{_≡_, ap}
 use native.Mathlib.Omega.{arith}
 use lib.ListN.{length}
-use Rattle.party.specs.Clearing.{clearDrops}
+use Rattle.party.specs.Settling.{clearDrops}
 use Rattle.parties.specs.Places.{at, total}
 use Rattle.parties.proofs.Loops.{length-of-map, turn, done, total-suc, total-all, all-15}
 use borrow.Author.Needs.{needs}

@@ -1,22 +1,46 @@
--- "A byte with nobody to take it is kept" (document 02, Q-2): what the definition of noacc comes to on the buses there are.
+-- Laws about turns: a name stays, and a byte with nobody to take it is kept (document 02, Q-2 and Q-3).
 -- Assumes nothing.
 use Prim.Native.Nat.{ℕ, _<_}
+use mathlib.Core.List.{List, map}
 use mathlib.Core.Path.{_≡_}
 use mathlib.Core.Bool.{Bool, true, false}
-use mathlib.Core.List.{List}
+use lib.ListN.{length, getD}
+use Rattle.message.specs.Meaning.{address}
+use Rattle.names.specs.Names.{plain}
 use Rattle.offer.specs.Offer.{kindOf, endOf}
 use Rattle.party.specs.Driving.{isActive}
 use Rattle.party.specs.Sending.{isSource, isPolled, offer}
+use Rattle.parties.specs.Places.{place}
 use Rattle.effect.specs.Effects.{say}
-use Rattle.bus.specs.Record.{here, lines, buildExtended}
-use Rattle.bus.specs.Settling.{answered}
+use Rattle.bus.specs.Types.{Call, Place, Name, Sdys, Full}
+use Rattle.bus.specs.Types.call-of
+use Rattle.bus.specs.Types.act-of
+use Rattle.bus.specs.Record.{here, buildExtended, lines}
 use Rattle.bus.specs.Machine as m
 use Rattle.bus.specs.declared.Bus.{Bus}
-use Rattle.bus.specs.declared.Answer.{Answer}
-use Rattle.bus.specs.Types.{Place, Name, Sdys, Full, Call}
-use Rattle.bus.specs.Types.ev
 use Rattle.bus.specs.Types.ruling
-use Rattle.turn_laws.specs.Steps.{stepOf, steps}
+use Rattle.bus.specs.Settling.{answered}
+use Rattle.bus.specs.declared.Answer.{Answer}
+use Rattle.bus.specs.Types.ev
+
+-- The call that steps the party at a place; a step for each place of a list.
+abbrev pub stepOf : ℕ → Call
+stepOf k = call-of.Of (place k) act-of.Step
+
+abbrev pub steps : List ℕ → List Call
+steps xs = map stepOf xs
+
+-- What no call changes: a party keeps the name that its build gave it, so that a host can tell from any bus which parties have secondaries (document 02, Q-3).
+
+abbrev pub nameAt : Bus → ℕ → Name
+nameAt b p = here b p .role .name
+
+-- On every bus that an accepted build and any calls lead to.
+abbrev pub Named : Type 0
+Named = (names : List Name) (system : Place) → buildExtended names system .refusal ≡ ruling.Accepted → (cs : List Call) (p : ℕ) → p < length names
+    → nameAt (m.run (buildExtended names system .bus) cs) p ≡ getD names p (plain (address 0))
+
+-- "A byte with nobody to take it is kept" (document 02, Q-2): what the definition of noacc comes to on the buses there are.
 
 -- Party p is a source in SDYS with the byte v, END e, on offer, and there is no acceptor: nobody drives NRFD or NDAC.
 pub record Alone (b : Bus) (p v : ℕ) (e : Bool) : Type 0 where
