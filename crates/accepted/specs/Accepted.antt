@@ -1,4 +1,5 @@
--- What each call does to its own party and to what stands, once it is accepted: a step (document 01, "A step of party p") or a call of the host.
+-- What each call does to its own party and to what stands, once it is accepted: a step (document 01, "A step of party
+-- p") or a call of the host.
 -- Assumes nothing.
 use mathlib.Core.Bool.{cond}
 use Rattle.party.specs.Sending.{isSource}
@@ -9,7 +10,8 @@ use Rattle.accepted.specs.Types.call-of
 use Rattle.accepted.specs.Types.act-of
 use Rattle.effect.specs.Calls.{isOn}
 use Rattle.effect.specs.Effects.{stay, withStanding}
-use Rattle.host_calls.specs.HostCalls.{write, read, pollRegister, secondRequest, listenOnly, talkOnly, controlled, dropHeld, reset, clear, tell}
+use Rattle.host_calls.specs.HostCalls.{write, read, pollRegister, secondRequest, listenOnly, talkOnly, controlled}
+use Rattle.host_calls.specs.HostCalls.{dropHeld, reset, clear, tell}
 
 -- "A source takes the source step, any other party the acceptor step."
 abbrev pub step : View → Effect
@@ -33,5 +35,6 @@ acted v (act-of.SecondRequest on) = withStanding (v .standing) (secondRequest (i
 abbrev pub effectOf : View → Call → Effect
 effectOf v (call-of.Of i a) = acted v a
 effectOf v call-of.Lines = withStanding (v .standing) (tell v)
--- Document 02, Q-4: who drives the lines is told beside the answer (crates/bus/specs/Drivers.antt), which has event none.
+-- Document 02, Q-4: who drives the lines is told beside the answer (crates/bus/specs/Drivers.antt), which has event
+-- none.
 effectOf v call-of.Drivers = stay v

@@ -30,14 +30,16 @@ name-past (a ∷ xs) ss zero d h = absurd (not-suc-le-zero h)
 name-past (a ∷ xs) [] (suc i) d h = name-past xs [] i d (le-of-suc-le-suc h)
 name-past (a ∷ xs) (s ∷ ss) (suc i) d h = name-past xs ss i d (le-of-suc-le-suc h)
 
-pub name-plain : (xs ss : List ℕ) (i : ℕ) (d : Name) → i < length xs → length ss ≤ i → getD (names xs ss) i d ≡ plain (address (getD xs i 0))
+pub name-plain : (xs ss : List ℕ) (i : ℕ) (d : Name) → i < length xs → length ss ≤ i
+    → getD (names xs ss) i d ≡ plain (address (getD xs i 0))
 name-plain [] ss i d h l = absurd (not-suc-le-zero h)
 name-plain (a ∷ xs) [] zero d h l = refl
 name-plain (a ∷ xs) (s ∷ ss) zero d h l = absurd (not-suc-le-zero l)
 name-plain (a ∷ xs) [] (suc i) d h l = name-plain xs [] i d (le-of-suc-le-suc h) (omega arith)
 name-plain (a ∷ xs) (s ∷ ss) (suc i) d h l = name-plain xs ss i d (le-of-suc-le-suc h) (le-of-suc-le-suc l)
 
-pub name-both : (xs ss : List ℕ) (i : ℕ) (d : Name) → i < length xs → i < length ss → getD (names xs ss) i d ≡ record { address = address (getD xs i 0); secondary = secondaryOf (getD ss i 0) }
+pub name-both : (xs ss : List ℕ) (i : ℕ) (d : Name) → i < length xs → i < length ss
+    → getD (names xs ss) i d ≡ record { address = address (getD xs i 0); secondary = secondaryOf (getD ss i 0) }
 name-both [] ss i d h l = absurd (not-suc-le-zero h)
 name-both (a ∷ xs) [] i d h l = absurd (not-suc-le-zero l)
 name-both (a ∷ xs) (s ∷ ss) zero d h l = refl
@@ -47,10 +49,16 @@ or-false : (x : Bool) → (x || false) ≡ x
 or-false true = refl
 or-false false = refl
 
--- g looks through a list: h of each element and what follows it. Before turn i the loop has f, and f or what is left to find is all that there is to find.
-module _ (g : List Name → Bool) (h : Name → List Name → Bool) (none : g [] ≡ false) (more : (x : Name) (xs : List Name) → g (x ∷ xs) ≡ (h x xs || g xs)) (l : List Name) (i : ℕ) (f all : Bool) (inv : (f || g (drop i l)) ≡ all) where
-  pub scan-turn : (d : Name) (q : Bool) → i < length l → q ≡ (f || h (getD l i d) (drop (i + 1) l)) → (q || g (drop (i + 1) l)) ≡ all
-  scan-turn d q m e = ap (λ (x : Bool). x || g (drop (i + 1) l)) e ∙ sym (or-assoc f (h (getD l i d) (drop (i + 1) l)) (g (drop (i + 1) l))) ∙ ap (λ (x : Bool). f || x) (sym rest) ∙ inv
+-- g looks through a list: h of each element and what follows it. Before turn i the loop has f, and f or what is left to
+-- find is all that there is to find.
+module _ (g : List Name → Bool) (h : Name → List Name → Bool) (none : g [] ≡ false)
+    (more : (x : Name) (xs : List Name) → g (x ∷ xs) ≡ (h x xs || g xs)) (l : List Name) (i : ℕ) (f all : Bool)
+    (inv : (f || g (drop i l)) ≡ all) where
+  pub scan-turn : (d : Name) (q : Bool) → i < length l → q ≡ (f || h (getD l i d) (drop (i + 1) l))
+      → (q || g (drop (i + 1) l)) ≡ all
+  scan-turn d q m e = ap (λ (x : Bool). x || g (drop (i + 1) l)) e
+      ∙ sym (or-assoc f (h (getD l i d) (drop (i + 1) l)) (g (drop (i + 1) l))) ∙ ap (λ (x : Bool). f || x) (sym rest)
+      ∙ inv
     where
       rest : g (drop i l) ≡ (h (getD l i d) (drop (i + 1) l) || g (drop (i + 1) l))
       rest = rw (add-one i) (ap g (drop-cons l i d m) ∙ more (getD l i d) (drop (suc i) l))
@@ -59,14 +67,18 @@ module _ (g : List Name → Bool) (h : Name → List Name → Bool) (none : g []
   scan-done m = sym (or-false f) ∙ ap (λ (x : Bool). f || x) (sym none ∙ sym (ap g (drop-of-length-le l m))) ∙ inv
 
 -- the places: one name more, and as many as there are places
-placed-suc : (n : ℕ) (xs : List Name) (k : ℕ) (d : Name) → k < length xs → k < n → set (placed n (take k xs)) k (builtParty (getD xs k d)) ≡ placed n (take (suc k) xs)
+placed-suc : (n : ℕ) (xs : List Name) (k : ℕ) (d : Name) → k < length xs → k < n
+    → set (placed n (take k xs)) k (builtParty (getD xs k d)) ≡ placed n (take (suc k) xs)
 placed-suc zero xs k d h m = absurd (not-suc-le-zero m)
 placed-suc (suc n) [] k d h m = absurd (not-suc-le-zero h)
 placed-suc (suc n) (x ∷ xs) zero d h m = refl
-placed-suc (suc n) (x ∷ xs) (suc k) d h m = ap (_∷_ (builtParty x)) (placed-suc n xs k d (le-of-suc-le-suc h) (le-of-suc-le-suc m))
+placed-suc (suc n) (x ∷ xs) (suc k) d h m = ap (_∷_ (builtParty x))
+    (placed-suc n xs k d (le-of-suc-le-suc h) (le-of-suc-le-suc m))
 
-pub place-turn : (xs : List Name) (k : ℕ) (d : Name) {out : List Party} {p : Party} → k < length xs → k < 15 → out ≡ placed 15 (take k xs) → p ≡ builtParty (getD xs k d) → set out k p ≡ placed 15 (take (k + 1) xs)
+pub place-turn : (xs : List Name) (k : ℕ) (d : Name) {out : List Party} {p : Party} → k < length xs → k < 15
+    → out ≡ placed 15 (take k xs) → p ≡ builtParty (getD xs k d) → set out k p ≡ placed 15 (take (k + 1) xs)
 place-turn xs k d h m i e = rw (add-one k, i, e) (placed-suc 15 xs k d h m)
 
-pub place-done : (xs : List Name) (k : ℕ) {out : List Party} → length xs ≤ k → out ≡ placed 15 (take k xs) → out ≡ placed 15 xs
+pub place-done : (xs : List Name) (k : ℕ) {out : List Party} → length xs ≤ k → out ≡ placed 15 (take k xs)
+    → out ≡ placed 15 xs
 place-done xs k m i = i ∙ ap (placed 15) (take-all k xs m)

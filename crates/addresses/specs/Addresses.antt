@@ -18,8 +18,8 @@ use Rattle.party.specs.Parts.{idle, builtParty}
 abbrev pub secondaryOf : ℕ → Secondary
 secondaryOf s = cond (eqb s 255) Absent (Given (secondary s))
 
--- The names that a list of addresses and one of secondaries give: where the second has ended there is no secondary, and what it has past the last address is
--- nobody's.
+-- The names that a list of addresses and one of secondaries give: where the second has ended there is no secondary, and
+-- what it has past the last address is nobody's.
 abbrev pub names : List ℕ → List ℕ → List Name
 names [] ss = []
 names (a ∷ xs) [] = plain (address a) ∷ names xs []
@@ -43,7 +43,8 @@ abbrev pub twoClash : List Name → Bool
 twoClash [] = false
 twoClash (x ∷ xs) = clashesWith x xs || twoClash xs
 
--- "BADBUILD: 0 or over 15 parties, address over 30, two equal, no such system party". Document 02, Q-3: "Two parties may share a primary only if both have
--- secondaries and these differ; otherwise, or with a secondary over 30, BADBUILD."
+-- "BADBUILD: 0 or over 15 parties, address over 30, two equal, no such system party". Document 02, Q-3: "Two parties
+-- may share a primary only if both have secondaries and these differ; otherwise, or with a secondary over 30,
+-- BADBUILD."
 abbrev pub badBuild : List Name → Place → Bool
 badBuild xs s = eqb (length xs) 0 || ltb 15 (length xs) || anyOver30 xs || twoClash xs || not (ltb (s .0) (length xs))

@@ -19,16 +19,20 @@ use Rattle.refusals.specs.Refusals.{ofParty, ofSwitch, isInside}
 use Rattle.bus.proofs.Invariant.{Inv}
 
 -- What a ruling of Accepted says of the test that it passed.
-pub if-so : (t : Bool) (x r : Refusal) → isAccepted r ≡ false → isAccepted (cond t x r) ≡ true → (t ≡ true) × (isAccepted x ≡ true)
+pub if-so : (t : Bool) (x r : Refusal) → isAccepted r ≡ false → isAccepted (cond t x r) ≡ true
+    → (t ≡ true) × (isAccepted x ≡ true)
 if-so true x r n e = (refl, e)
 if-so false x r n e = no (cc)
 
-pub if-not : (t : Bool) (x r : Refusal) → isAccepted r ≡ false → isAccepted (cond t r x) ≡ true → (t ≡ false) × (isAccepted x ≡ true)
+pub if-not : (t : Bool) (x r : Refusal) → isAccepted r ≡ false → isAccepted (cond t r x) ≡ true
+    → (t ≡ false) × (isAccepted x ≡ true)
 if-not true x r n e = no (cc)
 if-not false x r n e = (refl, e)
 
-pub known : (b : Bus) (p : Place) (r : Refusal) → isAccepted (ofParty (isInside (b .count) (p .0)) r) ≡ true → (p .0 < b .count) × (isAccepted r ≡ true)
-known b p r e = let h = if-so (isInside (b .count) (p .0)) r ruling.NoParty refl e in (ltb-true (p .0) (b .count) (right (ltb (p .0) 15) (ltb (p .0) (b .count)) (h .0)), h .1)
+pub known : (b : Bus) (p : Place) (r : Refusal) → isAccepted (ofParty (isInside (b .count) (p .0)) r) ≡ true
+    → (p .0 < b .count) × (isAccepted r ≡ true)
+known b p r e = let h = if-so (isInside (b .count) (p .0)) r ruling.NoParty refl e in
+    (ltb-true (p .0) (b .count) (right (ltb (p .0) 15) (ltb (p .0) (b .count)) (h .0)), h .1)
   where
     right : (x y : Bool) → (x && y) ≡ true → y ≡ true
     right true y g = g
@@ -49,7 +53,8 @@ stands-dav b I = go (b .standing) refl
 
     go : (st : Standing) → b .standing ≡ st → stands st ≡ true → lines b .dav ≡ true
     go Nothing e h = no (cc)
-    go (Byte s k v x) e h = some-seen (b .count) drivesDav (b .parties) refl (I .pre .tail) (s .0) (strs (here b (s .0)) (I .pre .sent (s .0) (rw e (eq-eqb (s .0) (s .0) refl))))
+    go (Byte s k v x) e h = some-seen (b .count) drivesDav (b .parties) refl (I .pre .tail) (s .0)
+        (strs (here b (s .0)) (I .pre .sent (s .0) (rw e (eq-eqb (s .0) (s .0) refl))))
 
 -- who joins is neither ready nor idle, nor has it taken, and while a byte stands it is in AWNS
 pub joining-away : (d : Bool) → (joining d ≡ Acrs → ⊥) × (joining d ≡ Acds → ⊥) × (joining d ≡ Aids → ⊥)

@@ -57,7 +57,8 @@ module _ (b : Bus) (I : Inv b) (p : Place) (l : p .0 < b .count) (ns : isSource 
   seen = viewAt p (lines b) b
 
   not-active : isActive (here b (p .0)) ≡ false
-  not-active = test (isActive (here b (p .0))) (λ h. let z = source-of-active (atnOf b) (here b (p .0)) h in no (cc)) (λ h. h)
+  not-active = test (isActive (here b (p .0))) (λ h. let z = source-of-active (atnOf b) (here b (p .0)) h in no (cc))
+      (λ h. h)
 
   not-sending : here b (p .0) .source ≡ Strs → ⊥
   not-sending e = let z = quiet b I (p .0) ns in no (cc)
@@ -69,7 +70,8 @@ module _ (b : Bus) (I : Inv b) (p : Place) (l : p .0 < b .count) (ns : isSource 
   unfolding G
   stays = stay-good b I p l
 
-  hear-good : (s : Place) (k : Kind) (v : ℕ) (e : Bool) → here b (p .0) .acceptor ≡ Acrs → b .standing ≡ Byte s k v e → atnOf b ≡ true
+  hear-good : (s : Place) (k : Kind) (v : ℕ) (e : Bool) → here b (p .0) .acceptor ≡ Acrs → b .standing ≡ Byte s k v e
+      → atnOf b ≡ true
       → G (hears v e seen)
   unfolding G
   hear-good s k v e ea es t = kept-good b (call-of.Of p act-of.Step) I (p .0) l (hears v e seen .said) new
@@ -89,7 +91,9 @@ module _ (b : Bus) (I : Inv b) (p : Place) (l : p .0 < b .count) (ns : isSource 
         polled = λ x. absurd (not-sending x);
         polls = λ x. absurd (not-sending x);
       })
-      (weak-look (here b) (b .standing) (p .0) new (weak-same (look (b .standing) (p .0) q) (look (b .standing) (p .0) new) (later ∙ sym before)) (I .pre .heard))
+      (weak-look (here b) (b .standing) (p .0) new
+      (weak-same (look (b .standing) (p .0) q) (look (b .standing) (p .0) new) (later ∙ sym before))
+      (I .pre .heard))
       (record {
         notPut = E .notPut;
         notEnd = E .notEnd;
@@ -115,15 +119,18 @@ module _ (b : Bus) (I : Inv b) (p : Place) (l : p .0 < b .count) (ns : isSource 
 
       -- what was waited for has come
       before : look (b .standing) (p .0) q ≡ roleHeard (meaningOf v) (q .role)
-      before = look-on (b .standing) (p .0) q (rw (cmd, ea) (or-right (sentBy (p .0) (b .standing)) refl)) ∙ ap (λ (st : Standing). roleHeard (codeOf st) (q .role)) es
+      before = look-on (b .standing) (p .0) q (rw (cmd, ea) (or-right (sentBy (p .0) (b .standing)) refl))
+          ∙ ap (λ (st : Standing). roleHeard (codeOf st) (q .role)) es
 
       later : look (b .standing) (p .0) new ≡ roleHeard (meaningOf v) (q .role)
       later = look-off (b .standing) (p .0) new (rw (cmd, not-mine cmd))
 
-  took-good : (s : Place) (k : Kind) (v : ℕ) (e : Bool) → here b (p .0) .acceptor ≡ Acrs → b .standing ≡ Byte s k v e → atnOf b ≡ false
+  took-good : (s : Place) (k : Kind) (v : ℕ) (e : Bool) → here b (p .0) .acceptor ≡ Acrs → b .standing ≡ Byte s k v e
+      → atnOf b ≡ false
       → G (fills v e seen)
   unfolding G
-  took-good s k v e ea es t = seated-good b (call-of.Of p act-of.Step) I (p .0) l (fills v e seen .said) (fills v e seen .party)
+  took-good s k v e ea es t = seated-good b (call-of.Of p act-of.Step) I (p .0) l (fills v e seen .said)
+      (fills v e seen .party)
       (record {
         inactive = not-active;
         name = refl;
@@ -137,7 +144,8 @@ module _ (b : Bus) (I : Inv b) (p : Place) (l : p .0 < b .count) (ns : isSource 
         empty = λ _ x. no (cc);
         polled = λ x. absurd (not-sending x);
         polls = λ x. absurd (not-sending x);
-        claims = let c = off-command (b .count) (atnOf b) (here b) (b .standing) (I .pre) t in rw c (weak-same (here b (p .0) .role) (here b (p .0) .role) refl);
+        claims = let c = off-command (b .count) (atnOf b) (here b) (b .standing) (I .pre) t in
+            rw c (weak-same (here b (p .0) .role) (here b (p .0) .role) refl);
       })
       (record {
         notPut = refl;
@@ -151,12 +159,15 @@ module _ (b : Bus) (I : Inv b) (p : Place) (l : p .0 < b .count) (ns : isSource 
       })
 
   -- a move of the acceptor that is no taking
-  shift-good : (x : Acceptor) → (stands (b .standing) ≡ true → x ≡ Anrs → ⊥) → (x ≡ Aids → ⊥) → (here b (p .0) .acceptor ≡ Aids → ⊥)
+  shift-good : (x : Acceptor) → (stands (b .standing) ≡ true → x ≡ Anrs → ⊥) → (x ≡ Aids → ⊥)
+      → (here b (p .0) .acceptor ≡ Aids → ⊥)
       → waits (b .standing) (p .0) x ≡ waits (b .standing) (p .0) (here b (p .0) .acceptor)
-      → (stands (b .standing) ≡ true → x ≡ Acrs → ⊥) → (atnOf b ≡ false → x ≡ Acrs → isFull (here b (p .0) .input) ≡ false) → (here b (p .0) .acceptor ≡ Acrs → ⊥)
+      → (stands (b .standing) ≡ true → x ≡ Acrs → ⊥)
+      → (atnOf b ≡ false → x ≡ Acrs → isFull (here b (p .0) .input) ≡ false) → (here b (p .0) .acceptor ≡ Acrs → ⊥)
       → G (moved seen (withAcceptor x (here b (p .0))))
   unfolding G
-  shift-good x an ai pa c ac em pc = seated-good b (call-of.Of p act-of.Step) I (p .0) l (say ev.Moved 0 false 0) (withAcceptor x (here b (p .0)))
+  shift-good x an ai pa c ac em pc = seated-good b (call-of.Of p act-of.Step) I (p .0) l (say ev.Moved 0 false 0)
+      (withAcceptor x (here b (p .0)))
       (record {
         inactive = not-active;
         name = refl;
@@ -170,7 +181,8 @@ module _ (b : Bus) (I : Inv b) (p : Place) (l : p .0 < b .count) (ns : isSource 
         empty = em;
         polled = λ y. absurd (not-sending y);
         polls = λ y. absurd (not-sending y);
-        claims = weak-same (look (b .standing) (p .0) (here b (p .0))) (look (b .standing) (p .0) (withAcceptor x (here b (p .0)))) (rw c);
+        claims = weak-same (look (b .standing) (p .0) (here b (p .0)))
+            (look (b .standing) (p .0) (withAcceptor x (here b (p .0)))) (rw c);
       })
       (record {
         notPut = refl;
@@ -208,13 +220,19 @@ module _ (b : Bus) (I : Inv b) (p : Place) (l : p .0 < b .count) (ns : isSource 
   by-state : (x : Acceptor) → here b (p .0) .acceptor ≡ x → G (acceptorIn x seen)
   by-state Aids ea = stays
   by-state Anrs ea = cond-elim G (atnOf b || not (isFull (here b (p .0) .input)))
-      (λ h. shift-good _ (λ _ e. no (cc)) (λ e. no (cc)) (λ e. no (cc)) (nobody (b .standing) Acrs (here b (p .0) .acceptor) (anrs-none ea)) (λ s e. I .pre .noAnrs s (p .0) ea) (λ t _. room (atnOf b) (isFull (here b (p .0) .input)) t h) (λ e. no (cc)))
+      (λ h. shift-good _ (λ _ e. no (cc)) (λ e. no (cc)) (λ e. no (cc))
+      (nobody (b .standing) Acrs (here b (p .0) .acceptor) (anrs-none ea)) (λ s e. I .pre .noAnrs s (p .0) ea)
+      (λ t _. room (atnOf b) (isFull (here b (p .0) .input)) t h) (λ e. no (cc)))
       (λ _. stays)
   by-state Acrs ea = cond-elim G (lines b .dav) (λ _. takes-good ea (b .standing) refl) (λ _. stays)
-  by-state Acds ea = shift-good _ (λ _ e. no (cc)) (λ e. no (cc)) (λ e. no (cc)) (rw ea) (λ s e. no (cc)) (λ t e. no (cc)) (λ e. no (cc))
+  by-state Acds ea = shift-good _ (λ _ e. no (cc)) (λ e. no (cc)) (λ e. no (cc)) (rw ea) (λ s e. no (cc))
+      (λ t e. no (cc)) (λ e. no (cc))
   by-state Awns ea = cond-elim G (lines b .dav) (λ _. stays)
-      (λ d. shift-good _ (λ s e. let z = none-stands d in no (cc)) (λ e. no (cc)) (λ e. no (cc)) (nobody (b .standing) Anrs (here b (p .0) .acceptor) (none-stands d)) (λ s e. no (cc)) (λ t e. no (cc)) (λ e. no (cc)))
+      (λ d. shift-good _ (λ s e. let z = none-stands d in no (cc)) (λ e. no (cc)) (λ e. no (cc))
+      (nobody (b .standing) Anrs (here b (p .0) .acceptor) (none-stands d)) (λ s e. no (cc)) (λ t e. no (cc))
+      (λ e. no (cc)))
 
-  pub accept-good : (x : Acceptor) → here b (p .0) .acceptor ≡ x → Good b (call-of.Of p act-of.Step) (follow (atnOf b) b (p .0) (acceptorIn x seen))
+  pub accept-good : (x : Acceptor) → here b (p .0) .acceptor ≡ x
+      → Good b (call-of.Of p act-of.Step) (follow (atnOf b) b (p .0) (acceptorIn x seen))
   unfolding G
   accept-good x ea = by-state x ea

@@ -29,20 +29,29 @@ module _ (v : ℕ → Party) (i : ℕ) (q : Party) where
 abbrev pub Unique : (Party → Bool) → (ℕ → Party) → Type 0
 Unique f v = (i j : ℕ) → f (v i) ≡ true → f (v j) ≡ true → i ≡ j
 
-pub upd-unique : (v : ℕ → Party) (i : ℕ) (q : Party) (f : Party → Bool) → Unique f v → (f q ≡ true → (j : ℕ) → f (v j) ≡ true → (j ≡ i → ⊥) → ⊥) → Unique f (upd v i q)
+pub upd-unique : (v : ℕ → Party) (i : ℕ) (q : Party) (f : Party → Bool) → Unique f v
+    → (f q ≡ true → (j : ℕ) → f (v j) ≡ true → (j ≡ i → ⊥) → ⊥) → Unique f (upd v i q)
 upd-unique v i q f u h = upd-all v i q (λ a x. (b : ℕ) → f x ≡ true → f (upd v i q b) ≡ true → a ≡ b)
     (upd-all v i q (λ b y. f q ≡ true → f y ≡ true → i ≡ b) (λ _ _. refl) (λ b ne e k. absurd (h e b k ne)))
-    (λ a ne. upd-all v i q (λ b y. f (v a) ≡ true → f y ≡ true → a ≡ b) (λ e k. absurd (h k a e ne)) (λ b me e k. u a b e k))
+    (λ a ne. upd-all v i q (λ b y. f (v a) ≡ true → f y ≡ true → a ≡ b) (λ e k. absurd (h k a e ne))
+    (λ b me e k. u a b e k))
 
 pub same-apart : (n : ℕ) (v u : ℕ → Role) → ((j : ℕ) → nameOf (u j) ≡ nameOf (v j)) → Apart n v → Apart n u
-same-apart n v u h D i j li lj e = D i j li lj (sym (ap (λ (x : Name). clashes (nameOf (v i)) x) (h j)) ∙ sym (ap (λ (x : Name). clashes x (nameOf (u j))) (h i)) ∙ e)
+same-apart n v u h D i j li lj e = D i j li lj
+    (sym (ap (λ (x : Name). clashes (nameOf (v i)) x) (h j)) ∙ sym (ap (λ (x : Name). clashes x (nameOf (u j))) (h i))
+    ∙ e)
 
-pub upd-apart : (n : ℕ) (v : ℕ → Party) (i : ℕ) (q : Party) → nameOf (q .role) ≡ nameOf (v i .role) → Apart n (λ j. v j .role) → Apart n (λ j. upd v i q j .role)
-upd-apart n v i q e = same-apart n (λ j. v j .role) (λ j. upd v i q j .role) (upd-all v i q (λ j x. nameOf (x .role) ≡ nameOf (v j .role)) e (λ j ne. refl))
+pub upd-apart : (n : ℕ) (v : ℕ → Party) (i : ℕ) (q : Party) → nameOf (q .role) ≡ nameOf (v i .role)
+    → Apart n (λ j. v j .role) → Apart n (λ j. upd v i q j .role)
+upd-apart n v i q e = same-apart n (λ j. v j .role) (λ j. upd v i q j .role)
+    (upd-all v i q (λ j x. nameOf (x .role) ≡ nameOf (v j .role)) e (λ j ne. refl))
 
 -- party i claims no more than it did
-pub weak-look : {atn : Bool} (v : ℕ → Party) (st : Standing) (i : ℕ) (q : Party) → Weak (look st i (v i)) (look st i q) → Addressed atn (λ j. look st j (v j)) → Addressed atn (λ j. look st j (upd v i q j))
-weak-look v st i q h = weaken (λ j. look st j (v j)) (λ j. look st j (upd v i q j)) (upd-all v i q (λ j x. Weak (look st j (v j)) (look st j x)) h (λ j ne. weak-same (look st j (v j)) (look st j (v j)) refl))
+pub weak-look : {atn : Bool} (v : ℕ → Party) (st : Standing) (i : ℕ) (q : Party) → Weak (look st i (v i)) (look st i q)
+    → Addressed atn (λ j. look st j (v j)) → Addressed atn (λ j. look st j (upd v i q j))
+weak-look v st i q h = weaken (λ j. look st j (v j)) (λ j. look st j (upd v i q j))
+    (upd-all v i q (λ j x. Weak (look st j (v j)) (look st j x)) h
+    (λ j ne. weak-same (look st j (v j)) (look st j (v j)) refl))
 
 -- p becomes q: what that keeps
 pub record Kept (atn : Bool) (st : Standing) (p q : Party) : Type 0 where
@@ -60,30 +69,42 @@ pub record Kept (atn : Bool) (st : Standing) (p q : Party) : Type 0 where
   pub empty : atn ≡ false → q .acceptor ≡ Acrs → isFull (q .input) ≡ false
   -- of a sender: it is polled if it was, and was if it is and is a source still
   pub polled : p .source ≡ Strs → isPolled atn q ≡ true → isPolled atn p ≡ true
-  pub polls : p .source ≡ Strs → isSource atn q ≡ true → (isSource atn p ≡ true) × (isPolled atn p ≡ true → isPolled atn q ≡ true)
+  pub polls : p .source ≡ Strs → isSource atn q ≡ true
+      → (isSource atn p ≡ true) × (isPolled atn p ≡ true → isPolled atn q ≡ true)
 
-pub keep-pre : (n : ℕ) (atn : Bool) (v : ℕ → Party) (st : Standing) → Pre n atn v st → (i : ℕ) → i < n → (q : Party) → Kept atn st (v i) q
+pub keep-pre : (n : ℕ) (atn : Bool) (v : ℕ → Party) (st : Standing) → Pre n atn v st → (i : ℕ) → i < n → (q : Party)
+    → Kept atn st (v i) q
     → Addressed atn (λ j. look st j (upd v i q j)) → Pre n atn (upd v i q) st
 keep-pre n atn v st P i l q K o = record {
   tail = upd-all v i q (λ j x. n ≤ j → x ≡ idle) (λ h. absurd (bad h)) (λ j ne. P .tail j);
-  atnIf = upd-all v i q (λ j x. isActive x ≡ true → atn ≡ true) (λ h. P .atnIf i (sym (K .act) ∙ h)) (λ j ne. P .atnIf j);
+  atnIf = upd-all v i q (λ j x. isActive x ≡ true → atn ≡ true) (λ h. P .atnIf i (sym (K .act) ∙ h))
+      (λ j ne. P .atnIf j);
   charge = upd-unique v i q (λ x. busy (x .control)) (P .charge) (λ h j e ne. ne (P .charge j i e (K .ctl h)));
   addr = upd-apart n v i q (K .name) (P .addr);
-  sends = upd-all v i q (λ j x. x .source ≡ Strs → sentBy j st ≡ true) (λ h. P .sends i (K .strs h)) (λ j ne. P .sends j);
+  sends = upd-all v i q (λ j x. x .source ≡ Strs → sentBy j st ≡ true) (λ h. P .sends i (K .strs h))
+      (λ j ne. P .sends j);
   sent = upd-all v i q (λ j x. sentBy j st ≡ true → x .source ≡ Strs) (λ h. K .stst (P .sent i h)) (λ j ne. P .sent j);
   kind = P .kind;
-  leads = λ c. upd-all v i q (λ j x. sentBy j st ≡ true → isActive x ≡ true) (λ h. K .act ∙ P .leads c i h) (λ j ne. P .leads c j);
+  leads = λ c. upd-all v i q (λ j x. sentBy j st ≡ true → isActive x ≡ true) (λ h. K .act ∙ P .leads c i h)
+      (λ j ne. P .leads c j);
   noAnrs = λ s. upd-all v i q (λ j x. x .acceptor ≡ Anrs → ⊥) (K .noAnrs s) (λ j ne. P .noAnrs s j);
-  active = upd-all v i q (λ j x. isActive x ≡ true → x .acceptor ≡ Aids) (λ h. K .active (sym (K .act) ∙ h)) (λ j ne. P .active j);
-  others = λ t. upd-all v i q (λ j x. j < n → isActive x ≡ false → x .acceptor ≡ Aids → ⊥) (λ m h. K .others t (sym (K .act) ∙ h)) (λ j ne. P .others t j);
-  listens = λ t. upd-all v i q (λ j x. x .role .listen ≡ false → x .acceptor ≡ Aids) (K .listens t) (λ j ne. P .listens t j);
-  joins = λ t. upd-all v i q (λ j x. x .role .listen ≡ true → x .acceptor ≡ Aids → ⊥) (K .joins t) (λ j ne. P .joins t j);
+  active = upd-all v i q (λ j x. isActive x ≡ true → x .acceptor ≡ Aids) (λ h. K .active (sym (K .act) ∙ h))
+      (λ j ne. P .active j);
+  others = λ t. upd-all v i q (λ j x. j < n → isActive x ≡ false → x .acceptor ≡ Aids → ⊥)
+      (λ m h. K .others t (sym (K .act) ∙ h)) (λ j ne. P .others t j);
+  listens = λ t. upd-all v i q (λ j x. x .role .listen ≡ false → x .acceptor ≡ Aids) (K .listens t)
+      (λ j ne. P .listens t j);
+  joins = λ t. upd-all v i q (λ j x. x .role .listen ≡ true → x .acceptor ≡ Aids → ⊥) (K .joins t)
+      (λ j ne. P .joins t j);
   heard = o;
   apart = upd-all v i q (λ j x. Single (x .role)) (K .apart) (λ j ne. P .apart j);
-  empty = λ t. upd-all v i q (λ j x. x .acceptor ≡ Acrs → isFull (x .input) ≡ false) (K .empty t) (λ j ne. P .empty t j);
+  empty = λ t. upd-all v i q (λ j x. x .acceptor ≡ Acrs → isFull (x .input) ≡ false) (K .empty t)
+      (λ j ne. P .empty t j);
   plain = P .plain;
-  polled = upd-all v i q (λ j x. sentBy j st ≡ true → isPolled atn x ≡ true → standsOf ofStatus st ≡ true) (λ h e. P .polled i h (K .polled (P .sent i h) e)) (λ j ne. P .polled j);
-  polls = upd-all v i q (λ j x. sentBy j st ≡ true → standsOf ofStatus st ≡ true → isSource atn x ≡ true → isPolled atn x ≡ true)
+  polled = upd-all v i q (λ j x. sentBy j st ≡ true → isPolled atn x ≡ true → standsOf ofStatus st ≡ true)
+      (λ h e. P .polled i h (K .polled (P .sent i h) e)) (λ j ne. P .polled j);
+  polls = upd-all v i q (λ j x. sentBy j st ≡ true → standsOf ofStatus st ≡ true → isSource atn x ≡ true → isPolled atn
+      x ≡ true)
       (λ h s e. let r = K .polls (P .sent i h) e in r .1 (P .polls i h s (r .0)))
       (λ j ne. P .polls j);
 }

@@ -31,13 +31,16 @@ use Rattle.bus.proofs.ControlCalls.{take-good, standby-good, reset-good
 use Rattle.bus.proofs.AcceptorStep.{accept-good}
 use Rattle.bus.proofs.SourceStep.{source-good}
 
-step-good : (b : Bus) → Inv b → (p : Place) → isAccepted (refusal (lines b) b (call-of.Of p act-of.Step)) ≡ true → Good b (call-of.Of p act-of.Step) (m.accepted (lines b) b (call-of.Of p act-of.Step))
+step-good : (b : Bus) → Inv b → (p : Place) → isAccepted (refusal (lines b) b (call-of.Of p act-of.Step)) ≡ true
+    → Good b (call-of.Of p act-of.Step) (m.accepted (lines b) b (call-of.Of p act-of.Step))
 step-good b I p ok = let l = known b p ruling.Accepted ok .0 in
-    cond-elim (λ (e : Effect). Good b (call-of.Of p act-of.Step) (follow (atnOf b) b (p .0) e)) (isSource (atnOf b) (here b (p .0)))
+    cond-elim (λ (e : Effect). Good b (call-of.Of p act-of.Step) (follow (atnOf b) b (p .0) e))
+    (isSource (atnOf b) (here b (p .0)))
     (λ so. source-good b I p l so (here b (p .0) .source) refl)
     (λ ns. accept-good b I p l ns (here b (p .0) .acceptor) refl)
 
-accepted-good : (b : Bus) → Inv b → (c : Call) → isAccepted (refusal (lines b) b c) ≡ true → Good b c (m.accepted (lines b) b c)
+accepted-good : (b : Bus) → Inv b → (c : Call) → isAccepted (refusal (lines b) b c) ≡ true
+    → Good b c (m.accepted (lines b) b c)
 accepted-good b I (call-of.Of p act-of.Step) = step-good b I p
 accepted-good b I (call-of.Of p (act-of.Write v e)) = write-good b I p v e
 accepted-good b I (call-of.Of p act-of.Read) = read-good b I p
@@ -62,13 +65,15 @@ run-inv b I [] = I
 run-inv b I (c ∷ cs) = run-inv (m.call b c .bus) (call-good b I c .inv) cs
 
 -- every call of a list, with d for what stands past its end
-pub all-good : (b : Bus) → Inv b → (cs : List Call) (d : Moment) (k : ℕ) → k < length cs → Good (getD (history b cs) k d .before) (getD (history b cs) k d .call) (getD (history b cs) k d .answer)
+pub all-good : (b : Bus) → Inv b → (cs : List Call) (d : Moment) (k : ℕ) → k < length cs
+    → Good (getD (history b cs) k d .before) (getD (history b cs) k d .call) (getD (history b cs) k d .answer)
 all-good b I [] d k h = absurd (not-suc-le-zero h)
 all-good b I (c ∷ cs) d zero h = call-good b I c
 all-good b I (c ∷ cs) d (suc k) h = all-good (m.call b c .bus) (call-good b I c .inv) cs d k (le-of-suc-le-suc h)
 
 -- each call gets the bus of the answer before
-pub linked : (b : Bus) (cs : List Call) (d : Moment) (k : ℕ) → suc k < length cs → getD (history b cs) (suc k) d .before ≡ getD (history b cs) k d .answer .bus
+pub linked : (b : Bus) (cs : List Call) (d : Moment) (k : ℕ) → suc k < length cs
+    → getD (history b cs) (suc k) d .before ≡ getD (history b cs) k d .answer .bus
 linked b [] d k h = absurd (not-suc-le-zero h)
 linked b (c ∷ []) d k h = absurd (not-suc-le-zero (le-of-suc-le-suc h))
 linked b (c ∷ (e ∷ cs)) d zero h = refl
@@ -79,7 +84,8 @@ first b [] d e = e
 first b (c ∷ cs) d e = refl
 
 -- the totals, from any bus
-shape-total : (st : Standing) (c : Call) (a : Answer) → Shape st c a → one (isPut (a .event)) + one (stands st) ≡ one (isEnd (a .event)) + a .broken + one (stands (a .bus .standing))
+shape-total : (st : Standing) (c : Call) (a : Answer) → Shape st c a
+    → one (isPut (a .event)) + one (stands st) ≡ one (isEnd (a .event)) + a .broken + one (stands (a .bus .standing))
 shape-total st c a (keeps p e k s) = rw (p, e, k, s) refl
 shape-total st c a (puts p e k n r d w s) = rw (p, e, k, n, s) refl
 shape-total st c a (ends p e k r d w n s) = rw (p, e, k, n, s) refl
@@ -87,12 +93,16 @@ shape-total st c a (breaks p e k u s) = rw (p, e, k, u, s) refl
 
 pub put-total : (b : Bus) → Inv b → (cs : List Call)
     → tally (λ x. one (isPut (x .answer .event))) (history b cs) + one (stands (b .standing))
-    ≡ tally (λ x. one (isEnd (x .answer .event))) (history b cs) + tally (λ x. x .answer .broken) (history b cs) + one (stands (m.run b cs .standing))
+    ≡ tally (λ x. one (isEnd (x .answer .event))) (history b cs) + tally (λ x. x .answer .broken) (history b cs)
+    + one (stands (m.run b cs .standing))
 put-total b I [] = refl
-put-total b I (c ∷ cs) = let g = call-good b I c in let h = shape-total (b .standing) c (m.call b c) (g .shape) in let k = put-total (m.call b c .bus) (g .inv) cs in omega arith
+put-total b I (c ∷ cs) = let g = call-good b I c in let h = shape-total (b .standing) c (m.call b c) (g .shape) in
+    let k = put-total (m.call b c .bus) (g .inv) cs in omega arith
 
 pub byte-total : (b : Bus) → Inv b → (cs : List Call)
     → tally (λ x. wrote (x .call) (x .answer .refusal)) (history b cs) + held b
-    ≡ tally (λ x. one (isHostPut (x .answer .event))) (history b cs) + tally (λ x. x .answer .dropped) (history b cs) + held (m.run b cs)
+    ≡ tally (λ x. one (isHostPut (x .answer .event))) (history b cs) + tally (λ x. x .answer .dropped) (history b cs)
+    + held (m.run b cs)
 byte-total b I [] = refl
-byte-total b I (c ∷ cs) = let g = call-good b I c in let h = g .bytes in let k = byte-total (m.call b c .bus) (g .inv) cs in omega arith
+byte-total b I (c ∷ cs) = let g = call-good b I c in let h = g .bytes in
+    let k = byte-total (m.call b c .bus) (g .inv) cs in omega arith

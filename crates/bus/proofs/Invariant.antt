@@ -83,7 +83,7 @@ is-acrs Acrs e = refl
 is-acrs Acds e = no (cc)
 is-acrs Awns e = no (cc)
 
--- party j has yet to roleHeard what stands
+-- party j has yet to hear what stands
 abbrev pub waits : Standing → ℕ → Acceptor → Bool
 waits st j x = isCommand st && (sentBy j st || inAcrs x)
 
@@ -129,7 +129,8 @@ pub record Pre (n : ℕ) (atn : Bool) (v : ℕ → Party) (st : Standing) : Type
   pub plain : hasEnd st ≡ true → standsOf ofData st ≡ true
   -- a polled sender put a status byte up, and as long as it is a source the sender of a status byte is polled
   pub polled : (j : ℕ) → sentBy j st ≡ true → isPolled atn (v j) ≡ true → standsOf ofStatus st ≡ true
-  pub polls : (j : ℕ) → sentBy j st ≡ true → standsOf ofStatus st ≡ true → isSource atn (v j) ≡ true → isPolled atn (v j) ≡ true
+  pub polls : (j : ℕ) → sentBy j st ≡ true → standsOf ofStatus st ≡ true → isSource atn (v j) ≡ true
+      → isPolled atn (v j) ≡ true
 
 -- a party that is no source is in SIDS
 abbrev pub Quiet : Bool → (ℕ → Party) → Type 0
@@ -167,7 +168,8 @@ settled-idle t = newborn-still t (plain (address 0))
 
 module _ (n : ℕ) (atn : Bool) (v : ℕ → Party) where
   -- settling breaks off what stands: its sender is no source any more
-  broken-pre : (st : Standing) → isCommand st ≡ false → Pre n atn v st → ((j : ℕ) → isSource atn (v j) ≡ true → v j .source ≡ Strs → ⊥) → Pre n atn (λ j. settled atn (v j)) Nothing
+  broken-pre : (st : Standing) → isCommand st ≡ false → Pre n atn v st
+      → ((j : ℕ) → isSource atn (v j) ≡ true → v j .source ≡ Strs → ⊥) → Pre n atn (λ j. settled atn (v j)) Nothing
   broken-pre st c P h = record {
     tail = λ j l. ap (settled atn) (P .tail j l) ∙ settled-idle atn;
     atnIf = P .atnIf;
@@ -191,7 +193,8 @@ module _ (n : ℕ) (atn : Bool) (v : ℕ → Party) where
   }
 
   -- settling lets stand what stands
-  pub kept-pre : (st : Standing) → Pre n atn v st → ((j : ℕ) → sentBy j st ≡ true → isSource atn (v j) ≡ true) → Pre n atn (λ j. settled atn (v j)) st
+  pub kept-pre : (st : Standing) → Pre n atn v st → ((j : ℕ) → sentBy j st ≡ true → isSource atn (v j) ≡ true)
+      → Pre n atn (λ j. settled atn (v j)) st
   kept-pre st P h = record {
     tail = λ j l. ap (settled atn) (P .tail j l) ∙ settled-idle atn;
     atnIf = P .atnIf;
@@ -219,11 +222,14 @@ module _ (n : ℕ) (ps : List Party) (l : n ≤ length ps) (tail : (j : ℕ) →
   as-seen : at (each n (settled t) ps) ≡ (λ j. settled t (at ps j))
   as-seen = at-each-all n (settled t) ps (settled-idle t) l tail
 
-  pub seen : (st : Standing) → some n isActive ps ≡ t → Pre n t (λ j. settled t (at ps j)) st → Pre n (some n isActive (each n (settled t) ps)) (at (each n (settled t) ps)) st
-  seen st e P = subst₂ (λ (x : Bool) (w : ℕ → Party). Pre n x w st) (sym (some-each n isActive (settled t) ps (λ p. refl) ∙ e)) (sym as-seen) P
+  pub seen : (st : Standing) → some n isActive ps ≡ t → Pre n t (λ j. settled t (at ps j)) st
+      → Pre n (some n isActive (each n (settled t) ps)) (at (each n (settled t) ps)) st
+  seen st e P = subst₂ (λ (x : Bool) (w : ℕ → Party). Pre n x w st)
+      (sym (some-each n isActive (settled t) ps (λ p. refl) ∙ e)) (sym as-seen) P
 
   pub seen-still : some n isActive ps ≡ t → Still (some n isActive (each n (settled t) ps)) (at (each n (settled t) ps))
-  seen-still e = subst₂ (λ (x : Bool) (w : ℕ → Party). Still x w) (sym (some-each n isActive (settled t) ps (λ p. refl) ∙ e)) (sym as-seen) (λ j. settled-twice t (at ps j))
+  seen-still e = subst₂ (λ (x : Bool) (w : ℕ → Party). Still x w)
+      (sym (some-each n isActive (settled t) ps (λ p. refl) ∙ e)) (sym as-seen) (λ j. settled-twice t (at ps j))
 
 not-false : (x : Bool) → not x ≡ false → x ≡ true
 not-false true e = refl
@@ -234,7 +240,8 @@ not-true true e = no (cc)
 not-true false e = refl
 
 -- settling makes the invariant of what a call keeps
-pub settle-inv : (b : Bus) (t : Bool) (s : Said) (ps : List Party) (st : Standing) → length ps ≡ 15 → b .count ≤ 15 → some (b .count) isActive ps ≡ t → Pre (b .count) t (at ps) st → Inv (settleBus t b s ps st .bus)
+pub settle-inv : (b : Bus) (t : Bool) (s : Said) (ps : List Party) (st : Standing) → length ps ≡ 15 → b .count ≤ 15
+    → some (b .count) isActive ps ≡ t → Pre (b .count) t (at ps) st → Inv (settleBus t b s ps st .bus)
 settle-inv b t s ps st z l a P = record {
   size = length-each (b .count) (settled t) ps ∙ z;
   small = l;
@@ -245,7 +252,8 @@ settle-inv b t s ps st z l a P = record {
     fits : b .count ≤ length ps
     fits = omega arith
 
-    go : (st : Standing) → Pre (b .count) t (at ps) st → (x : Bool) → deserted t ps st ≡ x → Pre (b .count) t (λ j. settled t (at ps j)) (cond x Nothing st)
+    go : (st : Standing) → Pre (b .count) t (at ps) st → (x : Bool) → deserted t ps st ≡ x
+        → Pre (b .count) t (λ j. settled t (at ps j)) (cond x Nothing st)
     go st P false e = kept-pre (b .count) t (at ps) st P (source st e)
       where
         source : (st : Standing) → deserted t ps st ≡ false → (j : ℕ) → sentBy j st ≡ true → isSource t (at ps j) ≡ true
@@ -255,10 +263,14 @@ settle-inv b t s ps st z l a P = record {
       where
         plain : (st : Standing) → Pre (b .count) t (at ps) st → deserted t ps st ≡ true → isCommand st ≡ false
         plain Nothing P e = refl
-        plain (Byte r Command v x) P e = let a = source-of-active t (at ps (r .0)) (P .leads refl (r .0) (eq-eqb (r .0) (r .0) refl)) in let y = not-true (isSource t (at ps (r .0))) e in no (cc)
+        plain (Byte r Command v x) P e =
+            let a = source-of-active t (at ps (r .0)) (P .leads refl (r .0) (eq-eqb (r .0) (r .0) refl)) in
+            let y = not-true (isSource t (at ps (r .0))) e in no (cc)
         plain (Byte r Data v x) P e = refl
         plain (Byte r Status v x) P e = refl
 
-        lost : (st : Standing) → Pre (b .count) t (at ps) st → deserted t ps st ≡ true → (j : ℕ) → sentBy j st ≡ true → isSource t (at ps j) ≡ true → ⊥
+        lost : (st : Standing) → Pre (b .count) t (at ps) st → deserted t ps st ≡ true → (j : ℕ) → sentBy j st ≡ true
+            → isSource t (at ps j) ≡ true → ⊥
         lost Nothing P e j h a = no (cc)
-        lost (Byte r k v x) P e j h a = let q = eqb-true j (r .0) h in let y = not-true (isSource t (at ps (r .0))) e in no (cc)
+        lost (Byte r k v x) P e j h a = let q = eqb-true j (r .0) h in let y = not-true (isSource t (at ps (r .0))) e in
+            no (cc)

@@ -1,4 +1,5 @@
--- Calls that change one party and let stand what stands: the summary, for a change that delivery does not see, and for one of the acceptor.
+-- Calls that change one party and let stand what stands: the summary, for a change that delivery does not see, and for
+-- one of the acceptor.
 -- Assumes nothing.
 use mathlib.Core.Path.{_≡_, refl, sym, ap, _∙_}
 use mathlib.Core.Bool.{Bool, true, false, _&&_}
@@ -28,7 +29,8 @@ use Rattle.bus.proofs.Change.{Kept, weak-look}
 use Rattle.bus.proofs.Summary.{Good, Word, refused, kept-good}
 
 -- A call's ruling: refused it changes nothing, and accepted it is as good as what it does.
-pub ruled : (b : Bus) (c : Call) → Inv b → (r : Refusal) (a : Answer) → (isAccepted r ≡ true → Good b c a) → Good b c (judged r b a)
+pub ruled : (b : Bus) (c : Call) → Inv b → (r : Refusal) (a : Answer) → (isAccepted r ≡ true → Good b c a)
+    → Good b c (judged r b a)
 ruled b c I r a f = cond-elim (Good b c) (isAccepted r) f (λ e. refused b c r I (rw e (nothing (isWrite c))))
   where
     nothing : (x : Bool) → one (x && false) ≡ 0
@@ -61,7 +63,8 @@ pub record Seated (b : Bus) (i : ℕ) (q : Party) : Type 0 where
   pub apart : Single (q .role)
   pub empty : atnOf b ≡ false → q .acceptor ≡ Acrs → isFull (q .input) ≡ false
   pub polled : here b i .source ≡ Strs → isPolled (atnOf b) q ≡ true → isPolled (atnOf b) (here b i) ≡ true
-  pub polls : here b i .source ≡ Strs → isSource (atnOf b) q ≡ true → (isSource (atnOf b) (here b i) ≡ true) × (isPolled (atnOf b) (here b i) ≡ true → isPolled (atnOf b) q ≡ true)
+  pub polls : here b i .source ≡ Strs → isSource (atnOf b) q ≡ true
+      → (isSource (atnOf b) (here b i) ≡ true) × (isPolled (atnOf b) (here b i) ≡ true → isPolled (atnOf b) q ≡ true)
   pub claims : Weak (look (b .standing) i (here b i)) (look (b .standing) i q)
 
 module _ (b : Bus) (c : Call) (I : Inv b) (i : ℕ) (l : i < b .count) where
@@ -88,7 +91,8 @@ module _ (b : Bus) (c : Call) (I : Inv b) (i : ℕ) (l : i < b .count) where
       → wrote c ruling.Accepted + heldBytes (here b i) ≡ one (isHostPut (s .event)) + s .dropped + heldBytes q
       → Good b c (settle (atnOf b) b i (does s q (b .standing)))
   plain-good s q H k ip ie it w = kept-good b c I i l s q (plain-kept q H)
-      (weak-look (here b) (b .standing) i q (weak-same (look (b .standing) i (here b i)) (look (b .standing) i q) (rw (H .role, H .acceptor))) (I .pre .heard))
+      (weak-look (here b) (b .standing) i q (weak-same (look (b .standing) i (here b i)) (look (b .standing) i q)
+      (rw (H .role, H .acceptor))) (I .pre .heard))
       (record {
         notPut = ip;
         notEnd = ie;
@@ -100,7 +104,8 @@ module _ (b : Bus) (c : Call) (I : Inv b) (i : ℕ) (l : i < b .count) where
         leaves = λ h e. inl (H .acceptor ∙ e);
       })
 
-  pub seated-good : (s : Said) (q : Party) → Seated b i q → Word b c i s q → Good b c (settle (atnOf b) b i (does s q (b .standing)))
+  pub seated-good : (s : Said) (q : Party) → Seated b i q → Word b c i s q
+      → Good b c (settle (atnOf b) b i (does s q (b .standing)))
   seated-good s q S W = kept-good b c I i l s q
       (record {
         name = S .name;
@@ -124,12 +129,21 @@ module _ (b : Bus) (c : Call) (I : Inv b) (i : ℕ) (l : i < b .count) where
 pub plain-same : (p : Party) → Plain p p
 plain-same p = record { role = refl; control = refl; acceptor = refl; input = λ e. e; strs = λ e. e; stst = λ e. e }
 
-pub plain-source : (p q : Party) (s : Source) → Plain p q → (s ≡ Strs → ⊥) → (p .source ≡ Strs → ⊥) → Plain p (withSource s q)
-plain-source p q s H f g = record { role = H .role; control = H .control; acceptor = H .acceptor; input = H .input; strs = λ e. absurd (f e); stst = λ e. absurd (g e) }
+pub plain-source : (p q : Party) (s : Source) → Plain p q → (s ≡ Strs → ⊥) → (p .source ≡ Strs → ⊥)
+    → Plain p (withSource s q)
+plain-source p q s H f g = record {
+  role = H .role;
+  control = H .control;
+  acceptor = H .acceptor;
+  input = H .input;
+  strs = λ e. absurd (f e);
+  stst = λ e. absurd (g e);
+}
 
 module _ (b : Bus) (I : Inv b) (p : Place) (l : p .0 < b .count) where
   pub step-caller : Caller (call-of.Of p act-of.Step) (p .0)
   step-caller j e = cc
 
   pub stay-good : Good b (call-of.Of p act-of.Step) (settle (atnOf b) b (p .0) (stay (viewAt p (lines b) b)))
-  stay-good = plain-good b (call-of.Of p act-of.Step) I (p .0) l (say ev.None 0 false 0) (here b (p .0)) (plain-same (here b (p .0))) step-caller refl refl refl refl
+  stay-good = plain-good b (call-of.Of p act-of.Step) I (p .0) l (say ev.None 0 false 0) (here b (p .0))
+      (plain-same (here b (p .0))) step-caller refl refl refl refl

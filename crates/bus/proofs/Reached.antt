@@ -10,7 +10,8 @@ use Rattle.party.specs.Sending.{isSource, isPolled}
 use Rattle.party.specs.Settling.{settled}
 use Rattle.role.proofs.Logic.{no, test, cond-elim}
 use Rattle.party.proofs.Settled.{settled-source}
-use Rattle.bus.specs.Types.{Place, Name, Party, Sids, Strs, Aids, Acrs, Kind, Command, Data, Status, Byte, Bus, Answer, Call}
+use Rattle.bus.specs.Types.{Place, Name, Party, Sids, Strs, Aids, Acrs, Kind, Command, Data, Status, Byte, Bus}
+use Rattle.bus.specs.Types.{Answer, Call}
 use Rattle.bus.specs.Types.ruling
 use Rattle.bus.specs.Record.{here, built, buildExtended}
 use Rattle.addresses.specs.Addresses.{badBuild}
@@ -21,7 +22,8 @@ use Rattle.bus.proofs.Built.{built-inv}
 use Rattle.bus.proofs.EachCall.{run-inv}
 
 -- the bus keeps the invariant
-pub reached : (xs : List Name) (s : Place) → buildExtended xs s .refusal ≡ ruling.Accepted → (cs : List Call) → Inv (m.run (buildExtended xs s .bus) cs)
+pub reached : (xs : List Name) (s : Place) → buildExtended xs s .refusal ≡ ruling.Accepted → (cs : List Call)
+    → Inv (m.run (buildExtended xs s .bus) cs)
 reached xs s ok cs = cond-elim (λ (a : Answer). a .refusal ≡ ruling.Accepted → Inv (m.run (a .bus) cs)) (badBuild xs s)
     (λ _ r. no (cc))
     (λ e _. run-inv (built xs s) (built-inv xs s e) cs)
@@ -72,7 +74,8 @@ module _ (b : Bus) (I : Inv b) where
     sender-in-strs = I .pre .sent (s .0) its-sender
 
     pub sender-is-source : isSource (atnOf b) (here b (s .0)) ≡ true
-    sender-is-source = test (isSource (atnOf b) (here b (s .0))) (λ h. h) (λ h. let z = quiet b I (s .0) h in let y = sender-in-strs in no (cc))
+    sender-is-source = test (isSource (atnOf b) (here b (s .0))) (λ h. h)
+        (λ h. let z = quiet b I (s .0) h in let y = sender-in-strs in no (cc))
 
     -- a status byte stands exactly where its sender is polled
     pub status-if-polled : isPolled (atnOf b) (here b (s .0)) ≡ true → k ≡ Status

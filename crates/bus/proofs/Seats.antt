@@ -43,7 +43,8 @@ seen p b = record {
 }
 
 pub judge-seat : (b : Bus) (p : Place) (c : Call) → judge (seen p b) c ≡ judge (viewAt p (lines b) b) c
-judge-seat b p c = test (ltb (p .0) 15) (λ e. rw (slot-in (p .0) e) refl) (λ e. judge-out c (seen p b) (viewAt p (lines b) b) (rw e refl) (rw e refl))
+judge-seat b p c = test (ltb (p .0) 15) (λ e. rw (slot-in (p .0) e) refl)
+    (λ e. judge-out c (seen p b) (viewAt p (lines b) b) (rw e refl) (rw e refl))
 
 in-seat : (i count : ℕ) (r : Refusal) → isAccepted (ofParty (isInside count i) r) ≡ true → slot i ≡ i
 in-seat i count r ok = test (ltb i 15) (slot-in i) (λ e. no (out e))
@@ -58,9 +59,11 @@ seat b call-of.Lines = λ _. refl
 seat b call-of.Drivers = λ _. refl
 
 -- the sender of what stands, at its slot
-pub left-seat : (t : Bool) (ps : List Party) (st : Standing) → length ps ≡ 15 → isLeft (isSource t (at ps (senderSlot st))) st ≡ deserted t ps st
+pub left-seat : (t : Bool) (ps : List Party) (st : Standing) → length ps ≡ 15
+    → isLeft (isSource t (at ps (senderSlot st))) st ≡ deserted t ps st
 left-seat t ps Nothing z = refl
-left-seat t ps (Byte s k v e) z = test (ltb (s .0) 15) (λ h. rw h refl) (λ h. rw (h, gone (ltb-false (s .0) 15 h)) (mute t))
+left-seat t ps (Byte s k v e) z = test (ltb (s .0) 15) (λ h. rw h refl)
+    (λ h. rw (h, gone (ltb-false (s .0) 15 h)) (mute t))
   where
     gone : 15 ≤ s .0 → at ps (s .0) ≡ idle
     gone h = List·getD-eq-default ps idle (omega arith)

@@ -36,9 +36,12 @@ use Rattle.bus.proofs.Attention.{Raw, attend-inv, no-taker, attend-held
 -- What a call does to the standing byte: keeps it, puts one up, ends it, or breaks it off.
 pub data Shape (st : Standing) (c : Call) (a : Answer) : Type 0 where
   keeps : isPut (a .event) ≡ false → isEnd (a .event) ≡ false → a .broken ≡ 0 → a .bus .standing ≡ st → Shape st c a
-  puts : isPut (a .event) ≡ true → isEnd (a .event) ≡ false → a .broken ≡ 0 → st ≡ Nothing → (s : Place) (k : Kind) → c ≡ call-of.Of s act-of.Step → a .bus .standing ≡ Byte s k (a .byte) (a .end) → Shape st c a
-  ends : isPut (a .event) ≡ false → isEnd (a .event) ≡ true → a .broken ≡ 0 → (s : Place) (k : Kind) → c ≡ call-of.Of s act-of.Step → st ≡ Byte s k (a .byte) (a .end) → a .bus .standing ≡ Nothing → Shape st c a
-  breaks : isPut (a .event) ≡ false → isEnd (a .event) ≡ false → a .broken ≡ 1 → stands st ≡ true → a .bus .standing ≡ Nothing → Shape st c a
+  puts : isPut (a .event) ≡ true → isEnd (a .event) ≡ false → a .broken ≡ 0 → st ≡ Nothing → (s : Place) (k : Kind)
+      → c ≡ call-of.Of s act-of.Step → a .bus .standing ≡ Byte s k (a .byte) (a .end) → Shape st c a
+  ends : isPut (a .event) ≡ false → isEnd (a .event) ≡ true → a .broken ≡ 0 → (s : Place) (k : Kind)
+      → c ≡ call-of.Of s act-of.Step → st ≡ Byte s k (a .byte) (a .end) → a .bus .standing ≡ Nothing → Shape st c a
+  breaks : isPut (a .event) ≡ false → isEnd (a .event) ≡ false → a .broken ≡ 1 → stands st ≡ true
+      → a .bus .standing ≡ Nothing → Shape st c a
 
 -- by call c party j leaves, if it is accepted
 abbrev pub Left : Call → ℕ → Type 0
@@ -94,8 +97,10 @@ refused b c r I w = record {
 }
 
 -- the parties after settling
-pub seen-settled : (b : Bus) (t : Bool) (ps : List Party) → length ps ≡ 15 → b .count ≤ 15 → Tail (b .count) ps → (j : ℕ) → at (each (b .count) (settled t) ps) j ≡ settled t (at ps j)
-seen-settled b t ps z l tail j = ap (λ (w : ℕ → Party). w j) (at-each-all (b .count) (settled t) ps (settled-idle t) (omega arith) tail)
+pub seen-settled : (b : Bus) (t : Bool) (ps : List Party) → length ps ≡ 15 → b .count ≤ 15 → Tail (b .count) ps
+    → (j : ℕ) → at (each (b .count) (settled t) ps) j ≡ settled t (at ps j)
+seen-settled b t ps z l tail j = ap (λ (w : ℕ → Party). w j)
+    (at-each-all (b .count) (settled t) ps (settled-idle t) (omega arith) tail)
 
 -- One party changes: the parties then.
 module _ (b : Bus) (I : Inv b) (i : ℕ) (l : i < b .count) (q : Party) where
@@ -108,23 +113,30 @@ module _ (b : Bus) (I : Inv b) (i : ℕ) (l : i < b .count) (q : Party) where
       bad : j ≡ i → ⊥
       bad e = omega arith
 
-  changed : (t : Bool) (j : ℕ) → at (each (b .count) (settled t) (set (b .parties) i q)) j ≡ settled t (upd (here b) i q j)
-  changed t j = seen-settled b t (set (b .parties) i q) (length-set (b .parties) i q ∙ I .size) (I .small) changed-tail j ∙ ap (λ (w : ℕ → Party). settled t (w j)) (at-set (b .parties) i q inside)
+  changed : (t : Bool) (j : ℕ) → at (each (b .count) (settled t) (set (b .parties) i q)) j ≡ settled t (upd (here b) i q
+      j)
+  changed t j = seen-settled b t (set (b .parties) i q) (length-set (b .parties) i q ∙ I .size) (I .small) changed-tail
+      j ∙ ap (λ (w : ℕ → Party). settled t (w j)) (at-set (b .parties) i q inside)
 
-  pub changed-acc : (t : Bool) (j : ℕ) → at (each (b .count) (settled t) (set (b .parties) i q)) j .acceptor ≡ upd (here b) i q j .acceptor
+  pub changed-acc : (t : Bool) (j : ℕ) → at (each (b .count) (settled t) (set (b .parties) i q)) j .acceptor ≡ upd (here
+      b) i q j .acceptor
   changed-acc t j = ap (λ (p : Party). p .acceptor) (changed t j)
 
-  pub changed-input : (t : Bool) (j : ℕ) → at (each (b .count) (settled t) (set (b .parties) i q)) j .input ≡ upd (here b) i q j .input
+  pub changed-input : (t : Bool) (j : ℕ) → at (each (b .count) (settled t) (set (b .parties) i q)) j .input ≡ upd (here
+      b) i q j .input
   changed-input t j = ap (λ (p : Party). p .input) (changed t j)
 
   pub set-held : total (b .count) heldBytes (set (b .parties) i q) + heldBytes (here b i) ≡ held b + heldBytes q
   set-held = total-set (b .count) heldBytes (b .parties) i q l inside
 
-  pub changed-held : (t : Bool) → total (b .count) heldBytes (each (b .count) (settled t) (set (b .parties) i q)) + heldBytes (here b i) ≡ held b + heldBytes q
+  pub changed-held : (t : Bool) → total (b .count) heldBytes (each (b .count) (settled t) (set (b .parties) i q)) +
+      heldBytes (here b i) ≡ held b + heldBytes q
   changed-held t = rw (total-each (b .count) heldBytes (settled t) (set (b .parties) i q) (λ p. refl)) set-held
 
-  pub touch-inv : (s : Said) (st : Standing) → isActive q ≡ isActive (here b i) → Pre (b .count) (atnOf b) (upd (here b) i q) st → Inv (settle (atnOf b) b i (does s q st) .bus)
-  touch-inv s st e P = settle-inv b (atnOf b) s (set (b .parties) i q) st (length-set (b .parties) i q ∙ I .size) (I .small) (some-set (b .count) isActive (b .parties) i q e)
+  pub touch-inv : (s : Said) (st : Standing) → isActive q ≡ isActive (here b i)
+      → Pre (b .count) (atnOf b) (upd (here b) i q) st → Inv (settle (atnOf b) b i (does s q st) .bus)
+  touch-inv s st e P = settle-inv b (atnOf b) s (set (b .parties) i q) st (length-set (b .parties) i q ∙ I .size)
+      (I .small) (some-set (b .count) isActive (b .parties) i q e)
       (subst (λ (w : ℕ → Party). Pre (b .count) (atnOf b) w st) (sym (at-set (b .parties) i q inside)) P)
 
   same-here : upd (here b) i q i ≡ q
@@ -136,20 +148,24 @@ pub record Word (b : Bus) (c : Call) (i : ℕ) (s : Said) (q : Party) : Type 0 w
   pub notEnd : isEnd (s .event) ≡ false
   pub acct : wrote c ruling.Accepted + heldBytes (here b i) ≡ one (isHostPut (s .event)) + s .dropped + heldBytes q
   pub caller : (j : ℕ) → c ≡ call-of.Of (place j) act-of.Step → j ≡ i
-  pub takes : isTake (s .event) ≡ true → (here b i .acceptor ≡ Acrs) × (q .acceptor ≡ Acds) × ((r : Place) × (k : Kind) × (b .standing ≡ Byte r k (s .byte) (s .end))) × (s .event ≡ ev.Took → q .input ≡ Full (s .byte) (s .end))
+  pub takes : isTake (s .event) ≡ true → (here b i .acceptor ≡ Acrs) × (q .acceptor ≡ Acds) × ((r : Place) × (k : Kind)
+      × (b .standing ≡ Byte r k (s .byte) (s .end))) × (s .event ≡ ev.Took → q .input ≡ Full (s .byte) (s .end))
   pub silent : here b i .acceptor ≡ Acrs → q .acceptor ≡ Acds → Taking c (s .event) i
   pub rejoin : stands (b .standing) ≡ true → q .acceptor ≡ Acrs → here b i .acceptor ≡ Acrs
-  pub leaves : stands (b .standing) ≡ true → here b i .acceptor ≡ Acrs → (q .acceptor ≡ Acrs) ⊎ Taking c (s .event) i ⊎ Left c i
+  pub leaves : stands (b .standing) ≡ true → here b i .acceptor ≡ Acrs
+      → (q .acceptor ≡ Acrs) ⊎ Taking c (s .event) i ⊎ Left c i
 
 pub deserted-stands : (t : Bool) (ps : List Party) (st : Standing) → deserted t ps st ≡ true → stands st ≡ true
 deserted-stands t ps Nothing e = e
 deserted-stands t ps (Byte s k v x) e = refl
 
-pub kept-good : (b : Bus) (c : Call) → Inv b → (i : ℕ) → i < b .count → (s : Said) (q : Party) → Kept (atnOf b) (b .standing) (here b i) q
+pub kept-good : (b : Bus) (c : Call) → Inv b → (i : ℕ) → i < b .count → (s : Said) (q : Party)
+    → Kept (atnOf b) (b .standing) (here b i) q
     → Addressed (atnOf b) (λ j. look (b .standing) j (upd (here b) i q j))
     → Word b c i s q → Good b c (settle (atnOf b) b i (does s q (b .standing)))
 kept-good b c I i l s q K o W = record {
-  inv = touch-inv b I i l q s (b .standing) (K .act) (keep-pre (b .count) (atnOf b) (here b) (b .standing) (I .pre) i l q K o);
+  inv = touch-inv b I i l q s (b .standing) (K .act)
+      (keep-pre (b .count) (atnOf b) (here b) (b .standing) (I .pre) i l q K o);
   shape = shape (deserted t qs (b .standing)) refl;
   bytes = let w = W .acct in let k = changed-held b I i l q t in omega arith;
   takes = λ h j e. taking h j (W .caller j e);
@@ -179,19 +195,23 @@ kept-good b c I i l s q K o W = record {
     taking : isTake (s .event) ≡ true → (j : ℕ) → j ≡ i → Takes b a j
     taking h j e = let w = W .takes h in record {
       from = rw e (w .0);
-      to = acc j ∙ ap (λ (x : ℕ). upd (here b) i q x .acceptor) e ∙ ap (λ (p : Party). p .acceptor) (same-here b I i l q) ∙ w .1;
+      to = acc j ∙ ap (λ (x : ℕ). upd (here b) i q x .acceptor) e
+          ∙ ap (λ (p : Party). p .acceptor) (same-here b I i l q) ∙ w .1;
       what = w .2;
-      input = λ u. changed-input b I i l q t j ∙ ap (λ (x : ℕ). upd (here b) i q x .input) e ∙ ap (λ (p : Party). p .input) (same-here b I i l q) ∙ w .3 u;
+      input = λ u. changed-input b I i l q t j ∙ ap (λ (x : ℕ). upd (here b) i q x .input) e
+          ∙ ap (λ (p : Party). p .input) (same-here b I i l q) ∙ w .3 u;
     }
 
     acds : (j : ℕ) → here b j .acceptor ≡ Acrs → upd (here b) i q j .acceptor ≡ Acds → Taking c (s .event) j
-    acds = upd-all (here b) i q (λ j x. here b j .acceptor ≡ Acrs → x .acceptor ≡ Acds → Taking c (s .event) j) (W .silent) (λ j ne e f. no (cc))
+    acds = upd-all (here b) i q (λ j x. here b j .acceptor ≡ Acrs → x .acceptor ≡ Acds → Taking c (s .event) j)
+        (W .silent) (λ j ne e f. no (cc))
 
     back : stands (b .standing) ≡ true → (j : ℕ) → upd (here b) i q j .acceptor ≡ Acrs → here b j .acceptor ≡ Acrs
     back h = upd-all (here b) i q (λ j x. x .acceptor ≡ Acrs → here b j .acceptor ≡ Acrs) (W .rejoin h) (λ j ne e. e)
 
     way : (j : ℕ) → j ≡ i → (q .acceptor ≡ Acrs) ⊎ Taking c (s .event) i ⊎ Left c i → Way c a j
-    way j e (inl h) = stayed (acc j ∙ ap (λ (x : ℕ). upd (here b) i q x .acceptor) e ∙ ap (λ (p : Party). p .acceptor) (same-here b I i l q) ∙ h)
+    way j e (inl h) = stayed (acc j ∙ ap (λ (x : ℕ). upd (here b) i q x .acceptor) e ∙ ap (λ (p : Party). p .acceptor)
+        (same-here b I i l q) ∙ h)
     way j e (inr (inl h)) = took (rw e h)
     way j e (inr (inr h)) = left refl (rw e h)
 
@@ -204,8 +224,10 @@ kept-good b c I i l s q K o W = record {
 
 -- Party i becomes q, its acceptor as it was: the other acceptors too are as they were.
 module _ (b : Bus) (I : Inv b) (i : ℕ) (l : i < b .count) (q : Party) (eq : q .acceptor ≡ here b i .acceptor) where
-  same-acc : (t : Bool) (j : ℕ) → at (each (b .count) (settled t) (set (b .parties) i q)) j .acceptor ≡ here b j .acceptor
-  same-acc t j = changed-acc b I i l q t j ∙ upd-all (here b) i q (λ j y. y .acceptor ≡ here b j .acceptor) eq (λ j ne. refl) j
+  same-acc : (t : Bool) (j : ℕ) → at (each (b .count) (settled t) (set (b .parties) i q)) j .acceptor ≡ here b j
+      .acceptor
+  same-acc t j = changed-acc b I i l q t j ∙ upd-all (here b) i q (λ j y. y .acceptor ≡ here b j .acceptor) eq (λ j ne.
+      refl) j
 
 -- A byte is put.
 pub put-good : (b : Bus) → Inv b → (p : Place) → p .0 < b .count → (x : Event) (q : Party) (k : Kind) (v : ℕ) (e : Bool)
@@ -216,7 +238,8 @@ pub put-good : (b : Bus) → Inv b → (p : Place) → p .0 < b .count → (x : 
     → Good b (call-of.Of p act-of.Step) (settle (atnOf b) b (p .0) (does (say x v e 0) q (Byte p k v e)))
 put-good b I p l x q k v e ip ie it st ac eq so w P = record {
   inv = touch-inv b I (p .0) l q (say x v e 0) (Byte p k v e) ac P;
-  shape = subst (λ (y : Bool). Shape (b .standing) (call-of.Of p act-of.Step) (settleBusAs t (not y) b (say x v e 0) qs (Byte p k v e))) (sym ok) (puts ip ie refl st p k refl refl);
+  shape = subst (λ (y : Bool). Shape (b .standing) (call-of.Of p act-of.Step)
+      (settleBusAs t (not y) b (say x v e 0) qs (Byte p k v e))) (sym ok) (puts ip ie refl st p k refl refl);
   bytes = let h = changed-held b I (p .0) l q t in omega arith;
   takes = λ h. no (cc);
   silent = λ j f g. let z = acc j in no (cc);
@@ -233,14 +256,17 @@ put-good b I p l x q k v e ip ie it st ac eq so w P = record {
     t = atnOf b
 
     ok : isSource t (at qs (p .0)) ≡ true
-    ok = (ap (λ (w : ℕ → Party). isSource (atnOf b) (w (p .0))) (at-set (b .parties) (p .0) q (inside b I (p .0) l q)) ∙ ap (isSource (atnOf b)) (same-here b I (p .0) l q) ∙ so)
+    ok = (ap (λ (w : ℕ → Party). isSource (atnOf b) (w (p .0))) (at-set (b .parties) (p .0) q (inside b I (p .0) l q))
+        ∙ ap (isSource (atnOf b)) (same-here b I (p .0) l q) ∙ so)
 
     acc : (j : ℕ) → at (each (b .count) (settled t) qs) j .acceptor ≡ here b j .acceptor
     acc = same-acc b I (p .0) l q eq t
 
 -- with NDAC false nobody is ready
-pub none-ready : (b : Bus) → Inv b → some (b .count) drivesNdac (b .parties) ≡ false → (j : ℕ) → here b j .acceptor ≡ Acrs → ⊥
-none-ready b I e j h = let z = some-none (b .count) drivesNdac (b .parties) refl (I .pre .tail) e j in let y = ready (here b j) h in no (cc)
+pub none-ready : (b : Bus) → Inv b → some (b .count) drivesNdac (b .parties) ≡ false → (j : ℕ)
+    → here b j .acceptor ≡ Acrs → ⊥
+none-ready b I e j h = let z = some-none (b .count) drivesNdac (b .parties) refl (I .pre .tail) e j in
+    let y = ready (here b j) h in no (cc)
   where
     ready : (p : Party) → p .acceptor ≡ Acrs → drivesNdac p ≡ true
     ready p e = rw e
@@ -254,7 +280,8 @@ pub end-good : (b : Bus) → Inv b → (p : Place) → p .0 < b .count → (q : 
 end-good b I p l q k v e st nd ac eq eh P = record {
   inv = touch-inv b I (p .0) l q (say ev.Ended v e 0) Nothing ac P;
   shape = ends refl refl refl p k refl st refl;
-  bytes = let h = changed-held b I (p .0) l q t in let k : heldBytes q ≡ heldBytes (here b (p .0)) = rw eh refl in omega arith;
+  bytes = let h = changed-held b I (p .0) l q t in let k : heldBytes q ≡ heldBytes (here b (p .0)) = rw eh refl in
+      omega arith;
   takes = λ h. no (cc);
   silent = λ j f g. let z = acc j in no (cc);
   rejoin = λ h j f. sym (acc j) ∙ f;
@@ -293,7 +320,8 @@ alarm-good b c I d ps z R w = record {
     shape (Byte r k v x) = breaks refl refl refl refl refl
 
 -- Control is passed: the command ends, and attention follows.
-pub pass-good : (b : Bus) → Inv b → (p : Place) (k : Kind) (d v : ℕ) (e : Bool) (ps : List Party) → length ps ≡ 15 → Raw (b .count) (at ps)
+pub pass-good : (b : Bus) → Inv b → (p : Place) (k : Kind) (d v : ℕ) (e : Bool) (ps : List Party) → length ps ≡ 15
+    → Raw (b .count) (at ps)
     → b .standing ≡ Byte p k v e → some (b .count) drivesNdac (b .parties) ≡ false
     → held b ≡ d + total (b .count) heldBytes ps
     → Good b (call-of.Of p act-of.Step) (attend b (say ev.Passed v e d) ps Nothing)

@@ -49,8 +49,10 @@ module _ (b : Bus) (I : Inv b) (n : b .standing ≡ Nothing) (h : held b ≡ 0) 
 
   pub delivered-from : Delivered b cs
   delivered-from = record {
-    oneDav = λ k p q e f. let J = run-inv b I (take k cs) in one-sender (m.run b (take k cs) .standing) p q (J .pre .sends p e) (J .pre .sends q f);
-    oneAtn = λ k p q e f. let J = run-inv b I (take k cs) in J .pre .charge p q (in-charge (here (m.run b (take k cs)) p) e) (in-charge (here (m.run b (take k cs)) q) f);
+    oneDav = λ k p q e f. let J = run-inv b I (take k cs) in
+        one-sender (m.run b (take k cs) .standing) p q (J .pre .sends p e) (J .pre .sends q f);
+    oneAtn = λ k p q e f. let J = run-inv b I (take k cs) in
+        J .pre .charge p q (in-charge (here (m.run b (take k cs)) p) e) (in-charge (here (m.run b (take k cs)) q) f);
     taken = ledger.taken b cs goods links begins;
     silent = ledger.silent b cs goods links begins;
     once = ledger.once b cs goods links begins;

@@ -1,5 +1,6 @@
 -- Demand 3, one statement over whole lists of calls: one driver of DAV and of ATN, delivery, totals.
--- Calls of a list are counted from 0. `i` is a call that puts a byte up, `k` and `l` calls that come later, `p` and `q` parties.
+-- Calls of a list are counted from 0. `i` is a call that puts a byte up, `k` and `l` calls that come later, `p` and `q`
+-- parties.
 -- Assumes nothing.
 use mathlib.Core.Path.{_≡_}
 use mathlib.Core.Bool.{Bool, true, false, _&&_}
@@ -20,8 +21,8 @@ use Rattle.bus.specs.Record.{here, refuse, buildExtended}
 use Rattle.effect.specs.Stands.{stands}
 use Rattle.bus.specs.Machine as m
 
--- What an event says of a byte: "A byte is put up by a step with event cmd, data or stat"; "event took, heard, clear or trigger";
--- "event ended or passed (it ended accepted)".
+-- What an event says of a byte: "A byte is put up by a step with event cmd, data or stat"; "event took, heard, clear or
+-- trigger"; "event ended or passed (it ended accepted)".
 pub data Deed : Type 0 where
   puts-host puts-status takes ends neither : Deed
 
@@ -112,13 +113,16 @@ module _ (b : Bus) (cs : List Call) where
   abbrev pub BreaksAt : ℕ → Type 0
   BreaksAt k = answerAt k .broken ≡ 1
 
-  -- "It stands from then until the next answer with event ended or passed .. or with broken 1": what call i put up stands when call k comes.
+  -- "It stands from then until the next answer with event ended or passed .. or with broken 1": what call i put up
+  -- stands when call k comes.
   abbrev pub StandsAt : ℕ → ℕ → Type 0
   StandsAt i k = PutAt i × (i < k) × ((j : ℕ) → i < j → j < k → (EndsAt j ⊎ BreaksAt j) → ⊥)
 
-  -- "A party takes a byte by its step from ACRS to ACDS, with event took, heard, clear or trigger": party p takes by call k.
+  -- "A party takes a byte by its step from ACRS to ACDS, with event took, heard, clear or trigger": party p takes by
+  -- call k.
   abbrev pub TakesAt : ℕ → ℕ → Type 0
-  TakesAt p k = (k < length cs) × (moment k .call ≡ call-of.Of (place p) act-of.Step) × (isTake (answerAt k .event) ≡ true)
+  TakesAt p k = (k < length cs) × (moment k .call ≡ call-of.Of (place p) act-of.Step)
+      × (isTake (answerAt k .event) ≡ true)
 
   -- "Ready means that its acceptor was in ACRS when the byte was put": party p, for what call i put up.
   abbrev pub ReadyAt : ℕ → ℕ → Type 0
@@ -126,9 +130,12 @@ module _ (b : Bus) (cs : List Call) where
 
   -- "an accepted listen-only off", "an accepted reset of it": by call k party p leaves.
   abbrev pub LeavesAt : ℕ → ℕ → Type 0
-  LeavesAt p k = (answerAt k .refusal ≡ ruling.Accepted) × ((moment k .call ≡ call-of.Of (place p) (act-of.ListenOnly 0)) ⊎ (moment k .call ≡ call-of.Of (place p) act-of.Reset))
+  LeavesAt p k = (answerAt k .refusal ≡ ruling.Accepted)
+      × ((moment k .call ≡ call-of.Of (place p) (act-of.ListenOnly 0))
+      ⊎ (moment k .call ≡ call-of.Of (place p) act-of.Reset))
 
-  -- "a party stayed if no accepted listen-only off and no accepted reset of it came while the byte stood": from its putting i to call e.
+  -- "a party stayed if no accepted listen-only off and no accepted reset of it came while the byte stood": from its
+  -- putting i to call e.
   abbrev pub StayedFrom : ℕ → ℕ → ℕ → Type 0
   StayedFrom p i e = (k : ℕ) → i < k → k < e → LeavesAt p k → ⊥
 
@@ -147,33 +154,42 @@ module _ (b : Bus) (cs : List Call) where
     pub value : answerAt k .byte ≡ answerAt i .byte
     pub end : answerAt k .end ≡ answerAt i .end
     -- "and for took also those then in data-in"
-    pub input : answerAt k .event ≡ ev.Took → here (answerAt k .bus) p .input ≡ Full (answerAt i .byte) (answerAt i .end)
+    pub input : answerAt k .event ≡ ev.Took → here (answerAt k .bus) p .input ≡ Full (answerAt i .byte) (answerAt i
+        .end)
 
   -- Demand 3 for this list.
   pub record Delivered : Type 0 where
-    -- "at most one party drives DAV, at most one ATN": on every bus of the list. "A party drives DAV in STRS, and ATN when it is active."
+    -- "at most one party drives DAV, at most one ATN": on every bus of the list. "A party drives DAV in STRS, and ATN
+    -- when it is active."
     pub oneDav : (k p q : ℕ) → here (busAfter k) p .source ≡ Strs → here (busAfter k) q .source ≡ Strs → p ≡ q
     pub oneAtn : (k p q : ℕ) → here (busAfter k) p .control ≡ Active → here (busAfter k) q .control ≡ Active → p ≡ q
     -- "nothing is taken but a byte that stands", and what is taken is as `Taken` says
     pub taken : (p k : ℕ) → TakesAt p k → (i : ℕ) × Taken p k i
-    -- nor is anything taken unsaid: who goes from ACRS to ACDS in a call took by its own step, with event took, heard, clear or trigger
-    pub silent : (p k : ℕ) → k < length cs → here (busAt k) p .acceptor ≡ Acrs → here (answerAt k .bus) p .acceptor ≡ Acds → TakesAt p k
+    -- nor is anything taken unsaid: who goes from ACRS to ACDS in a call took by its own step, with event took, heard,
+    -- clear or trigger
+    pub silent : (p k : ℕ) → k < length cs → here (busAt k) p .acceptor ≡ Acrs
+        → here (answerAt k .bus) p .acceptor ≡ Acds → TakesAt p k
     -- "every byte put up was taken at most once by each party"
     pub once : (p i k l : ℕ) → StandsAt i k → StandsAt i l → TakesAt p k → TakesAt p l → k ≡ l
-    -- "a byte that ended accepted was taken exactly once by each party that was ready and stayed": some call takes it, and by `once` no other
-    pub everyone : (p i e : ℕ) → StandsAt i e → e < length cs → EndsAt e → ReadyAt p i → StayedFrom p i e → (k : ℕ) × ((k < e) × TakesAt p k × Taken p k i)
+    -- "a byte that ended accepted was taken exactly once by each party that was ready and stayed": some call takes it,
+    -- and by `once` no other
+    pub everyone : (p i e : ℕ) → StandsAt i e → e < length cs → EndsAt e → ReadyAt p i → StayedFrom p i e
+        → (k : ℕ) × ((k < e) × TakesAt p k × Taken p k i)
     -- "what was taken .. in the order of putting"
     pub ordered : (p k l i j : ℕ) → k < l → TakesAt p k → Taken p k i → TakesAt p l → Taken p l j → i < j
     -- "puts = ended + broken off + standing"
     pub puts :
         tally (λ x. one (isPut (x .answer .event))) (history b cs)
-        ≡ tally (λ x. one (isEnd (x .answer .event))) (history b cs) + tally (λ x. x .answer .broken) (history b cs) + one (stands (lastBus .standing))
+        ≡ tally (λ x. one (isEnd (x .answer .event))) (history b cs) + tally (λ x. x .answer .broken) (history b cs)
+        + one (stands (lastBus .standing))
     -- "host bytes accepted = bytes put up without status bytes + dropped + held"
     pub bytes :
         tally (λ x. wrote (x .call) (x .answer .refusal)) (history b cs)
-        ≡ tally (λ x. one (isHostPut (x .answer .event))) (history b cs) + tally (λ x. x .answer .dropped) (history b cs) + held lastBus
+        ≡ tally (λ x. one (isHostPut (x .answer .event))) (history b cs)
+        + tally (λ x. x .answer .dropped) (history b cs) + held lastBus
 
--- Demand 3: "For every list of steps and host calls (any order, refused ones included, no build) from a bus that an accepted build gave", with secondaries
--- or without.
+-- Demand 3: "For every list of steps and host calls (any order, refused ones included, no build) from a bus that an
+-- accepted build gave", with secondaries or without.
 abbrev pub Delivery : Type 0
-Delivery = (names : List Name) (system : Place) → buildExtended names system .refusal ≡ ruling.Accepted → (cs : List Call) → Delivered (buildExtended names system .bus) cs
+Delivery = (names : List Name) (system : Place) → buildExtended names system .refusal ≡ ruling.Accepted
+    → (cs : List Call) → Delivered (buildExtended names system .bus) cs

@@ -1,4 +1,5 @@
--- Who drives each line, and how many they are (document 02, Q-4): the call that answers it, and what holds of its answers.
+-- Who drives each line, and how many they are (document 02, Q-4): the call that answers it, and what holds of its
+-- answers.
 -- Assumes nothing.
 use Prim.Native.Nat.{ℕ, _/_, _%_, _^_, _≤_, _<_}
 use mathlib.Core.Path.{_≡_}
@@ -22,8 +23,9 @@ use Rattle.bus.specs.Delivery.{busAfter}
 pub data Line : Type 0 where
   Atn Dav Nrfd Ndac Eoi Srq : Line
 
--- Does the party at place i drive a line: "ATN: some party is active. DAV: some source in STRS. NRFD: some acceptor in ANRS, ACDS or AWNS. NDAC: some acceptor in
--- ANRS, ACRS or ACDS. .. SRQ: some service in SRQS." And "EOI is driven by the sender of a standing byte with END".
+-- Does the party at place i drive a line: "ATN: some party is active. DAV: some source in STRS. NRFD: some acceptor in
+-- ANRS, ACDS or AWNS. NDAC: some acceptor in ANRS, ACRS or ACDS. .. SRQ: some service in SRQS." And "EOI is driven by
+-- the sender of a standing byte with END".
 abbrev pub drives : Line → Bus → ℕ → Bool
 drives Atn b i = isActive (here b i)
 drives Dav b i = drivesDav (here b i)
@@ -41,12 +43,27 @@ abbrev pub driversOf : Line → Bus → ℕ
 driversOf l b = howMany (within (b .count)) (drives l b)
 
 abbrev pub masks : Bus → Masks
-masks b = record { atn = maskOf Atn b; dav = maskOf Dav b; nrfd = maskOf Nrfd b; ndac = maskOf Ndac b; eoi = maskOf Eoi b; srq = maskOf Srq b }
+masks b = record {
+  atn = maskOf Atn b;
+  dav = maskOf Dav b;
+  nrfd = maskOf Nrfd b;
+  ndac = maskOf Ndac b;
+  eoi = maskOf Eoi b;
+  srq = maskOf Srq b;
+}
 
 abbrev pub counts : Bus → Counts
-counts b = record { atn = driversOf Atn b; dav = driversOf Dav b; nrfd = driversOf Nrfd b; ndac = driversOf Ndac b; eoi = driversOf Eoi b; srq = driversOf Srq b }
+counts b = record {
+  atn = driversOf Atn b;
+  dav = driversOf Dav b;
+  nrfd = driversOf Nrfd b;
+  ndac = driversOf Ndac b;
+  eoi = driversOf Eoi b;
+  srq = driversOf Srq b;
+}
 
--- "A new call answers each line's number of drivers", those of the bus as it finds it, with the masks, and what every call answers.
+-- "A new call answers each line's number of drivers", those of the bus as it finds it, with the masks, and what every
+-- call answers.
 abbrev pub drivers : Bus → Drivers
 drivers b = record { masks = masks b; counts = counts b; answer = m.call b call-of.Drivers }
 
@@ -64,7 +81,8 @@ FifteenBits = (l : Line) (b : Bus) → maskOf l b < 2 ^ 15
 
 -- The call is never refused, on any bus, and has event none.
 abbrev pub NeverRefused : Type 0
-NeverRefused = (b : Bus) → let a = m.call b call-of.Drivers in (a .refusal ≡ ruling.Accepted) × (a .event ≡ ev.None) × (a .byte ≡ 0) × (a .end ≡ false) × (a .dropped ≡ 0)
+NeverRefused = (b : Bus) → let a = m.call b call-of.Drivers in (a .refusal ≡ ruling.Accepted) × (a .event ≡ ev.None) ×
+    (a .byte ≡ 0) × (a .end ≡ false) × (a .dropped ≡ 0)
 
 -- It differs from the call of lines in what it says alone: the bus after it is the same.
 abbrev pub LeavesAsLines : Type 0
@@ -81,15 +99,19 @@ isDriven Srq b = lines b .srq
 
 -- On every bus of demand 3's lists a line is on exactly where its mask is not 0.
 abbrev pub OnWhereDriven : Type 0
-OnWhereDriven = (names : List Name) (system : Place) → buildExtended names system .refusal ≡ ruling.Accepted → (cs : List Call) (k : ℕ) (l : Line)
+OnWhereDriven = (names : List Name) (system : Place) → buildExtended names system .refusal ≡ ruling.Accepted
+    → (cs : List Call) (k : ℕ) (l : Line)
     → let b = busAfter (buildExtended names system .bus) cs k in isDriven l b ≡ isOn (maskOf l b)
 
--- On every bus of demand 3's lists the call changes nothing: it is accepted with event none, nothing is dropped or broken off, and the bus is as it was.
+-- On every bus of demand 3's lists the call changes nothing: it is accepted with event none, nothing is dropped or
+-- broken off, and the bus is as it was.
 abbrev pub ChangesNothing : Type 0
-ChangesNothing = (names : List Name) (system : Place) → buildExtended names system .refusal ≡ ruling.Accepted → (cs : List Call) (k : ℕ)
+ChangesNothing = (names : List Name) (system : Place) → buildExtended names system .refusal ≡ ruling.Accepted
+    → (cs : List Call) (k : ℕ)
     → let b = busAfter (buildExtended names system .bus) cs k in m.call b call-of.Drivers ≡ refuse ruling.Accepted b
 
 -- On every bus of demand 3's lists nobody or one party drives ATN, and so DAV.
 abbrev pub OneDriver : Type 0
-OneDriver = (names : List Name) (system : Place) → buildExtended names system .refusal ≡ ruling.Accepted → (cs : List Call) (k : ℕ)
+OneDriver = (names : List Name) (system : Place) → buildExtended names system .refusal ≡ ruling.Accepted
+    → (cs : List Call) (k : ℕ)
     → let b = busAfter (buildExtended names system .bus) cs k in (driversOf Atn b ≤ 1) × (driversOf Dav b ≤ 1)

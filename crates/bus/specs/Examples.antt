@@ -1,4 +1,5 @@
--- Document 01's proved examples, P1 to P12: twelve rows, and one proposition that says that the machine answers as they do. Rows.antt has their words.
+-- Document 01's proved examples, P1 to P12: twelve rows, and one proposition that says that the machine answers as they
+-- do. Rows.antt has their words.
 -- Assumes nothing.
 use Prim.Native.Nat.{ℕ}
 use mathlib.Core.Path.{_≡_}
@@ -10,7 +11,8 @@ use Rattle.bus.specs.Types.ruling
 use Rattle.bus.specs.Types.ev
 use Rattle.bus.specs.Types.call-of
 use Rattle.bus.specs.Types.act-of
-use Rattle.bus.specs.Rows.{Report, Run, outcome, expected, ok, moved, says, loses, refused, step, write, read, listenOnly, talkOnly, clear, standby, run, notBuilt, sends}
+use Rattle.bus.specs.Rows.{Report, Run, outcome, expected, ok, moved, says, loses, refused, step, write, read}
+use Rattle.bus.specs.Rows.{listenOnly, talkOnly, clear, standby, run, notBuilt, sends}
 
 -- "P1 the script above": its records 2 to 8, and 9 to 12.
 abbrev taking : List (Call × Report) → List (Call × Report)
@@ -126,7 +128,8 @@ P6 =
     ∷ [])
     ∷ []
 
--- "P7 no listener: noacc", and since document 02's Q-2 "dropped 0". Stepped again the talker says noacc again; a listener that joins then takes that byte.
+-- "P7 no listener: noacc", and since document 02's Q-2 "dropped 0". Stepped again the talker says noacc again; a
+-- listener that joins then takes that byte.
 abbrev pub P7 : List Run
 P7 =
     run (5 ∷ 6 ∷ []) (
@@ -149,7 +152,8 @@ P8 = run (30 ∷ []) ((step 0, ok) ∷ []) ∷ notBuilt (31 ∷ []) ∷ []
 -- "P9 15 parties built, 16 refused"
 abbrev pub P9 : List Run
 P9 =
-    run (0 ∷ 1 ∷ 2 ∷ 3 ∷ 4 ∷ 5 ∷ 6 ∷ 7 ∷ 8 ∷ 9 ∷ 10 ∷ 11 ∷ 12 ∷ 13 ∷ 14 ∷ []) ((step 14, ok) ∷ (step 15, refused ruling.NoParty) ∷ [])
+    run (0 ∷ 1 ∷ 2 ∷ 3 ∷ 4 ∷ 5 ∷ 6 ∷ 7 ∷ 8 ∷ 9 ∷ 10 ∷ 11 ∷ 12 ∷ 13 ∷ 14 ∷ [])
+    ((step 14, ok) ∷ (step 15, refused ruling.NoParty) ∷ [])
     ∷ notBuilt (0 ∷ 1 ∷ 2 ∷ 3 ∷ 4 ∷ 5 ∷ 6 ∷ 7 ∷ 8 ∷ 9 ∷ 10 ∷ 11 ∷ 12 ∷ 13 ∷ 14 ∷ 15 ∷ [])
     ∷ []
 

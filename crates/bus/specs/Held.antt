@@ -34,7 +34,8 @@ number a d r c e s = record { atn = a; dav = d; nrfd = r; ndac = c; eoi = e; srq
 
 -- Party 0 talks, with a byte to send, and parties 1 to 3 listen: all are ready, and the byte is put up.
 abbrev offered : ℕ → List Call → List Call
-offered end rest = talkOnly 0 1 ∷ listenOnly 1 1 ∷ listenOnly 2 1 ∷ listenOnly 3 1 ∷ write 0 0x41 end ∷ step 1 ∷ step 2 ∷ step 3 ∷ step 0 ∷ step 0 ∷ rest
+offered end rest = talkOnly 0 1 ∷ listenOnly 1 1 ∷ listenOnly 2 1 ∷ listenOnly 3 1 ∷ write 0 0x41 end ∷ step 1 ∷ step 2
+    ∷ step 3 ∷ step 0 ∷ step 0 ∷ rest
 
 abbrev pub cases : List Case
 cases =
@@ -48,7 +49,12 @@ cases =
       counts = number 0 1 1 1 1 0;
     }
     -- A byte with END stands before three ready listeners, who do not drive EOI.
-    ∷ record { addresses = 1 ∷ 2 ∷ 3 ∷ 4 ∷ []; calls = offered 1 []; masks = who 0 0b0001 0 0b1110 0b0001 0; counts = number 0 1 0 3 1 0 }
+    ∷ record {
+      addresses = 1 ∷ 2 ∷ 3 ∷ 4 ∷ [];
+      calls = offered 1 [];
+      masks = who 0 0b0001 0 0b1110 0b0001 0;
+      counts = number 0 1 0 3 1 0;
+    }
     -- Party 2 has taken it, party 3 took it and let NDAC go, party 1 is still ready.
     ∷ record {
       addresses = 1 ∷ 2 ∷ 3 ∷ 4 ∷ [];
@@ -59,14 +65,16 @@ cases =
     -- A bus that hangs: the byte has ended, nobody has read, and who is not ready for the next one holds NRFD and NDAC.
     ∷ record {
       addresses = 1 ∷ 2 ∷ 3 ∷ 4 ∷ [];
-      calls = offered 0 (step 1 ∷ step 2 ∷ step 3 ∷ step 1 ∷ step 2 ∷ step 3 ∷ step 0 ∷ step 1 ∷ step 2 ∷ step 3 ∷ call-of.Of (place 2) act-of.Read ∷ step 1 ∷ step 2 ∷ step 3 ∷ []);
+      calls = offered 0 (step 1 ∷ step 2 ∷ step 3 ∷ step 1 ∷ step 2 ∷ step 3 ∷ step 0 ∷ step 1 ∷ step 2 ∷ step 3 ∷
+          call-of.Of (place 2) act-of.Read ∷ step 1 ∷ step 2 ∷ step 3 ∷ []);
       masks = who 0 0 0b1010 0b1110 0 0;
       counts = number 0 0 2 3 0 0;
     }
     -- The system party takes charge, and two others ask for service.
     ∷ record {
       addresses = 1 ∷ 2 ∷ 3 ∷ 4 ∷ [];
-      calls = clear 0 ∷ call-of.Of (place 1) (act-of.PollRegister 0x40) ∷ call-of.Of (place 3) (act-of.PollRegister 0x41) ∷ [];
+      calls = clear 0 ∷ call-of.Of (place 1) (act-of.PollRegister 0x40) ∷ call-of.Of (place 3)
+          (act-of.PollRegister 0x41) ∷ [];
       masks = who 0b0001 0 0b1110 0b1110 0 0b1010;
       counts = number 1 0 3 3 0 2;
     }

@@ -19,7 +19,8 @@ here b i = at (b .parties) i
 abbrev pub lines : Bus → Lines
 lines b = linesOf (b .count) (b .parties) (hasEnd (b .standing))
 
--- "Build takes the addresses and the system party." Document 02, Q-3: "A party may be built with a secondary address 0..30, or none."
+-- "Build takes the addresses and the system party." Document 02, Q-3: "A party may be built with a secondary address
+-- 0..30, or none."
 abbrev pub built : List Name → Place → Bus
 built xs s = record { parties = placed 15 xs; count = length xs; system = s; standing = Nothing }
 
@@ -31,7 +32,8 @@ noParties = built [] (place 0)
 abbrev pub refuse : Refusal → Bus → Answer
 refuse r b = record { refusal = r; event = ev.None; byte = 0; end = false; dropped = 0; broken = 0; bus = b }
 
--- "except that a refused build .. leaves the bus of no parties". An accepted one has event none; settling leaves a bus just built as it is.
+-- "except that a refused build .. leaves the bus of no parties". An accepted one has event none; settling leaves a bus
+-- just built as it is.
 abbrev pub buildExtended : List Name → Place → Answer
 buildExtended xs s = cond (badBuild xs s) (refuse ruling.BadBuild noParties) (refuse ruling.Accepted (built xs s))
 

@@ -1,4 +1,5 @@
--- The words of a proved example. An example is a list of runs. A run is a build with its answer, then calls, each beside the answer that it should have.
+-- The words of a proved example. An example is a list of runs. A run is a build with its answer, then calls, each
+-- beside the answer that it should have.
 -- Assumes nothing.
 use Prim.Native.Nat.{ℕ}
 use mathlib.Core.Bool.{Bool, false}
@@ -23,7 +24,14 @@ pub record Report : Type 0 where
   pub broken : ℕ
 
 abbrev pub reported : Answer → Report
-reported a = record { refusal = a .refusal; event = a .event; byte = a .byte; end = a .end; dropped = a .dropped; broken = a .broken }
+reported a = record {
+  refusal = a .refusal;
+  event = a .event;
+  byte = a .byte;
+  end = a .end;
+  dropped = a .dropped;
+  broken = a .broken;
+}
 
 pub record Run : Type 0 where
   pub names : List Name
@@ -36,14 +44,22 @@ answers b [] = []
 answers b (c ∷ cs) = reported (call b (c .0)) ∷ answers (call b (c .0) .bus) cs
 
 abbrev pub outcome : Run → List Report
-outcome r = reported (buildExtended (r .names) (place (r .system))) ∷ answers (buildExtended (r .names) (place (r .system)) .bus) (r .calls)
+outcome r = reported (buildExtended (r .names) (place (r .system))) ∷ answers
+    (buildExtended (r .names) (place (r .system)) .bus) (r .calls)
 
 abbrev pub expected : Run → List Report
 expected r = r .built ∷ map (λ c. c .1) (r .calls)
 
 -- The answers: bytes dropped and broken off; nothing to say; an event with its byte and END; moved; a refusal.
 abbrev pub loses : ℕ → ℕ → Report
-loses dropped broken = record { refusal = ruling.Accepted; event = ev.None; byte = 0; end = false; dropped = dropped; broken = broken }
+loses dropped broken = record {
+  refusal = ruling.Accepted;
+  event = ev.None;
+  byte = 0;
+  end = false;
+  dropped = dropped;
+  broken = broken;
+}
 
 abbrev pub ok : Report
 ok = loses 0 0

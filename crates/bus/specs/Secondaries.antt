@@ -13,7 +13,8 @@ use Rattle.bus.specs.Types.ruling
 use Rattle.bus.specs.Types.ev
 use Rattle.bus.specs.Types.call-of
 use Rattle.bus.specs.Types.act-of
-use Rattle.bus.specs.Rows.{Report, Run, outcome, expected, ok, moved, says, refused, step, write, listenOnly, talkOnly, clear, standby, runOf, notBuiltOf}
+use Rattle.bus.specs.Rows.{Report, Run, outcome, expected, ok, moved, says, refused, step, write, listenOnly}
+use Rattle.bus.specs.Rows.{talkOnly, clear, standby, runOf, notBuiltOf}
 
 abbrev at : ℕ → Name
 at a = plain (address a)
@@ -80,8 +81,8 @@ onlySecondListens =
     ∷ (step 0, says ev.Ended 0x41 false)
     ∷ []
 
--- Talk moved from 2/12 to 2/13: "The own secondary .. while talk primary turns talk on", "Any other secondary while talk primary turns talk off", and the mark
--- outlasts a secondary. A secondary that nobody has leaves no talker.
+-- Talk moved from 2/12 to 2/13: "The own secondary .. while talk primary turns talk on", "Any other secondary while
+-- talk primary turns talk off", and the mark outlasts a secondary. A secondary that nobody has leaves no talker.
 abbrev pub S1 : List Run
 S1 =
     rack (sends 0x42 (sends 0x6c (talks 1 2)))
@@ -96,15 +97,17 @@ S2 =
     ∷ rack (sends 0x22 (sends 0x6d (sends 0x6e onlySecondListens)))
     ∷ []
 
--- A primary alone addresses nobody: nobody talks after 42, and after 22 each of the two may talk, which a listener may not.
+-- A primary alone addresses nobody: nobody talks after 42, and after 22 each of the two may talk, which a listener may
+-- not.
 abbrev pub S3 : List Run
 S3 =
     rack (sends 0x42 nobodyTalks)
     ∷ rack (sends 0x22 ((standby 0, ok) ∷ (talkOnly 1 1, ok) ∷ (talkOnly 1 0, ok) ∷ (talkOnly 2 1, ok) ∷ []))
     ∷ []
 
--- A mark lost by a universal command between (14, DCL): the secondary that follows does nothing. 7F is none, and clears nothing. A primary without a meaning (01)
--- clears the mark as well, and so does the own listen address, which sets the other.
+-- A mark lost by a universal command between (14, DCL): the secondary that follows does nothing. 7F is none, and clears
+-- nothing. A primary without a meaning (01) clears the mark as well, and so does the own listen address, which sets the
+-- other.
 abbrev pub S4 : List Run
 S4 =
     rack (sends 0x42 (sendsAs ev.Clear 0x14 (sends 0x6c nobodyTalks)))
@@ -122,7 +125,8 @@ S5 =
     ∷ rack (sends 0x42 ((call-of.Of (place 1) act-of.Reset, ok) ∷ sends 0x6d (talks 2 1)))
     ∷ []
 
--- "Other talk addresses and UNT still clear talk", and the sender's own hearing counts: 4/7 in control addresses itself by 44 67.
+-- "Other talk addresses and UNT still clear talk", and the sender's own hearing counts: 4/7 in control addresses itself
+-- by 44 67.
 abbrev pub S6 : List Run
 S6 =
     rack (sends 0x42 (sends 0x6c (sends 0x45 nobodyTalks)))
@@ -131,8 +135,8 @@ S6 =
     ∷ runOf (extended 4 7 ∷ extended 2 12 ∷ at 5 ∷ []) ((clear 0, ok) ∷ sends 0x44 nobodyTalks)
     ∷ []
 
--- "A party may be built with a secondary address 0..30, or none. Two parties may share a primary only if both have secondaries and these differ; otherwise, or with
--- a secondary over 30, BADBUILD."
+-- "A party may be built with a secondary address 0..30, or none. Two parties may share a primary only if both have
+-- secondaries and these differ; otherwise, or with a secondary over 30, BADBUILD."
 abbrev pub S7 : List Run
 S7 =
     runOf (extended 2 30 ∷ extended 2 0 ∷ at 3 ∷ []) ((step 2, ok) ∷ [])

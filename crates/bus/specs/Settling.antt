@@ -31,7 +31,13 @@ answered off s b = record {
 
 -- "After each accepted call every party settles."
 abbrev pub settleBusAs : Bool → Bool → Bus → Said → List Party → Standing → Answer
-settleBusAs atn off b s ps st = answered off s (record { parties = each (b .count) (settled atn) ps; count = b .count; system = b .system; standing = cond off Nothing st })
+settleBusAs atn off b s ps st = answered off s
+    (record {
+      parties = each (b .count) (settled atn) ps;
+      count = b .count;
+      system = b .system;
+      standing = cond off Nothing st;
+    })
 
 -- "A non-source goes to SIDS, its own standing byte broken off": its sender is no source any more.
 abbrev pub deserted : Bool → List Party → Standing → Bool
@@ -63,7 +69,8 @@ pass b i e j = attend b
     (set (set (b .parties) i (changeControl Idle (e .party))) j (changeControl Active (here b j)))
     (e .standing)
 
--- "Interface clear: talk, listen and poll mode off everywhere, all control idle", then the system party as its effect says.
+-- "Interface clear: talk, listen and poll mode off everywhere, all control idle", then the system party as its effect
+-- says.
 abbrev pub clearAll : Bus → ℕ → Effect → Answer
 clearAll b i e = attend b
     (say ev.None 0 false (total (b .count) clearDrops (b .parties) + heldBytes (cleared (here b i))))

@@ -1,4 +1,5 @@
-// The calls on a bus: each goes through the parties once, meets its refusal or has its effect, and hands the bus back in its answer.
+// The calls on a bus: each goes through the parties once, meets its refusal or has its effect, and hands the bus back
+// in its answer.
 ghost use mathlib.Core.Path.{_≡_};
 ghost use Rattle.bus.specs.Machine.{call};
 ghost use Rattle.bus.specs.Drivers.{drivers};

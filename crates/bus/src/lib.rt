@@ -31,7 +31,8 @@ pub struct Answer {
     pub bus: Bus,
 }
 
-// What the call that asks who drives the lines answers: who, and how many, of the bus as it was found; and what every call answers.
+// What the call that asks who drives the lines answers: who, and how many, of the bus as it was found; and what every
+// call answers.
 pub struct Drivers {
     pub masks: Masks,
     pub counts: Counts,

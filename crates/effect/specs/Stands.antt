@@ -38,7 +38,8 @@ abbrev pub senderSlot : Standing → ℕ
 senderSlot Nothing = 0
 senderSlot (Byte s k v e) = slot (s .0)
 
--- Is it broken off by settling, where it is known whether the party at the sender's place is a source. Who is at no place is none.
+-- Is it broken off by settling, where it is known whether the party at the sender's place is a source. Who is at no
+-- place is none.
 abbrev pub isLeft : Bool → Standing → Bool
 isLeft source Nothing = false
 isLeft source (Byte s k v e) = cond (ltb (s .0) 15) (not source) true

@@ -1,4 +1,5 @@
-// Document 01's example script through the calls: a talker sends one byte to a listener. A line is printed for each answer.
+// Document 01's example script through the calls: a talker sends one byte to a listener. A line is printed for each
+// answer.
 use bus::Answer;
 use bus::Bus;
 use libc::STDOUT_FILENO;

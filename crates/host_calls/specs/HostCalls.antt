@@ -1,5 +1,5 @@
--- The host's calls, once they are accepted (document 01, "The host's calls"): what each says, what follows, and its party.
--- None of them changes what stands.
+-- The host's calls, once they are accepted (document 01, "The host's calls"): what each says, what follows, and its
+-- party. None of them changes what stands.
 -- Assumes nothing.
 use Prim.Native.Nat.{ℕ}
 use mathlib.Core.Bool.{Bool, false, cond}
@@ -43,13 +43,15 @@ secondRequest on v = let p = v .party in asks (withRsv2 on (p .request)) p
 abbrev pub joining : Bool → Acceptor
 joining dav = cond dav Awns Anrs
 
--- "Listen-only on: if listen was off and ATN is false, the acceptor goes to AWNS when DAV is true, else ANRS; off: to AIDS if ATN is false."
+-- "Listen-only on: if listen was off and ATN is false, the acceptor goes to AWNS when DAV is true, else ANRS; off: to
+-- AIDS if ATN is false."
 abbrev pub listenAcceptor : Bool → Bool → Lines → Acceptor → Acceptor
 listenAcceptor on was l a = cond (l .atn) a (cond on (cond was a (joining (l .dav))) Aids)
 
 abbrev pub listenOnly : Bool → View → Outcome
 listenOnly on v = let p = v .party in
-    quiet 0 (withRole (withFlags (p .role .talk) on (p .role)) (withAcceptor (listenAcceptor on (p .role .listen) (v .lines) (p .acceptor)) p))
+    quiet 0 (withRole (withFlags (p .role .talk) on (p .role))
+    (withAcceptor (listenAcceptor on (p .role .listen) (v .lines) (p .acceptor)) p))
 
 -- "Talk-only on, off: the flag."
 abbrev pub talkOnly : Bool → View → Outcome
@@ -67,10 +69,12 @@ dropHeld v = quiet (heldBytes (v .party)) (withHeld Empty (v .party))
 abbrev pub resetAcceptor : Lines → Acceptor
 resetAcceptor l = cond (l .atn) (joining (l .dav)) Aids
 
--- "Reset: flags off, control idle, held byte dropped, data-in emptied, poll register kept": attention follows if it was active.
+-- "Reset: flags off, control idle, held byte dropped, data-in emptied, poll register kept": attention follows if it was
+-- active.
 abbrev pub resetAs : Bool → View → Outcome
 resetAs active v = let p = v .party in
-    cond active (then after.Attend (quiet (heldBytes p) (wiped p))) (quiet (heldBytes p) (withAcceptor (resetAcceptor (v .lines)) (wiped p)))
+    cond active (then after.Attend (quiet (heldBytes p) (wiped p)))
+    (quiet (heldBytes p) (withAcceptor (resetAcceptor (v .lines)) (wiped p)))
 
 abbrev pub reset : View → Outcome
 reset v = resetAs (isActive (v .party)) v

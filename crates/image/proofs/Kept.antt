@@ -8,10 +8,16 @@ use lib.Seq.{take-at, getD-at}
 use Rattle.party.specs.Parts.{one}
 use Rattle.offer.specs.Offer.{isFull}
 use Rattle.effect.specs.Stands.{hasEnd}
-use Rattle.image.specs.Types.{Secondary, Absent, Given, Mark, Unmarked, TalkPrimary, ListenPrimary, Party, Control, Idle, Standby, Active, Source, Sids, Sgns, Sdys, Strs, Acceptor, Aids, Anrs, Acrs, Acds, Awns}
-use Rattle.image.specs.Types.{Service, Nprs, Srqs, Aprs, Slot, Empty, Full, Command, Data, Status, Standing, Nothing, Byte, Bus}
-use Rattle.image.specs.Image.{markNumber, hasSecondary, secondaryNumber, controlNumber, sourceNumber, acceptorNumber, serviceNumber, slotValue, slotEnd, standingTag, standingSender, standingValue, rowOf, lastRow, rowsOf}
-use Rattle.image.specs.Image.{flag, markOf, secondaryOf, controlOf, sourceOf, acceptorOf, serviceOf, slotOf, standingOf, partyOf, busOf}
+use Rattle.image.specs.Types.{Secondary, Absent, Given, Mark, Unmarked, TalkPrimary, ListenPrimary, Party}
+use Rattle.image.specs.Types.{Control, Idle, Standby, Active, Source, Sids, Sgns, Sdys, Strs, Acceptor, Aids}
+use Rattle.image.specs.Types.{Anrs, Acrs, Acds, Awns}
+use Rattle.image.specs.Types.{Service, Nprs, Srqs, Aprs, Slot, Empty, Full, Command, Data, Status, Standing}
+use Rattle.image.specs.Types.{Nothing, Byte, Bus}
+use Rattle.image.specs.Image.{markNumber, hasSecondary, secondaryNumber, controlNumber, sourceNumber}
+use Rattle.image.specs.Image.{acceptorNumber, serviceNumber, slotValue, slotEnd, standingTag, standingSender}
+use Rattle.image.specs.Image.{standingValue, rowOf, lastRow, rowsOf}
+use Rattle.image.specs.Image.{flag, markOf, secondaryOf, controlOf, sourceOf, acceptorOf, serviceOf, slotOf}
+use Rattle.image.specs.Image.{standingOf, partyOf, busOf}
 
 flag-kept : (x : Bool) → flag (one x) ≡ x
 flag-kept true = refl
@@ -60,7 +66,8 @@ standing-kept (Byte s Data v e) = ap (Byte s Data v) (flag-kept e)
 standing-kept (Byte s Status v e) = ap (Byte s Status v) (flag-kept e)
 
 party-kept : (p : Party) → partyOf (rowOf p) ≡ p
-party-kept p = rw (slot-kept (p .held), slot-kept (p .input), secondary-kept (p .role .name .secondary)) (simp (flag-kept, mark-kept, control-kept, source-kept, acceptor-kept, service-kept))
+party-kept p = rw (slot-kept (p .held), slot-kept (p .input), secondary-kept (p .role .name .secondary))
+    (simp (flag-kept, mark-kept, control-kept, source-kept, acceptor-kept, service-kept))
 
 parties-kept : (ps : List Party) → map partyOf (map rowOf ps) ≡ ps
 parties-kept [] = refl
@@ -70,4 +77,10 @@ pub kept : (b : Bus) → length (b .parties) ≡ 15 → busOf (rowsOf b) ≡ b
 unfolding busOf rowsOf
 kept b z =
     let written : length (map rowOf (b .parties)) ≡ 15 = length-map (b .parties) rowOf ∙ z in
-    rw (take-at (map rowOf (b .parties)) (lastRow b ∷ []) 15 written, getD-at (map rowOf (b .parties)) (lastRow b) [] [] 15 written, parties-kept (b .parties), standing-kept (b .standing)) refl
+    rw (
+      take-at (map rowOf (b .parties)) (lastRow b ∷ []) 15 written,
+      getD-at (map rowOf (b .parties)) (lastRow b) [] []
+          15 written,
+      parties-kept (b .parties),
+      standing-kept (b .standing),
+    ) refl

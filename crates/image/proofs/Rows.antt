@@ -7,7 +7,9 @@ use Rattle.party.specs.Parts.{one}
 use Rattle.offer.specs.Offer.{isFull}
 use Rattle.parties.specs.Places.{place}
 use Rattle.image.specs.Types.{Party, Standing, Bus}
-use Rattle.image.specs.Image.{hasSecondary, secondaryNumber, markNumber, controlNumber, sourceNumber, acceptorNumber, serviceNumber, slotValue, slotEnd, rowOf, standingOf, byteAt, busWith}
+use Rattle.image.specs.Image.{hasSecondary, secondaryNumber, markNumber, controlNumber, sourceNumber}
+use Rattle.image.specs.Image.{acceptorNumber, serviceNumber, slotValue, slotEnd, rowOf, standingOf, byteAt}
+use Rattle.image.specs.Image.{busWith}
 
 pub row-by-parts : (p : Party) {a₁ a₂ a₃ a₄ a₅ a₆ a₇ a₈ a₉ a₁₀ a₁₁ a₁₂ a₁₅ a₁₆ a₁₇ a₁₈ a₁₉ : ℕ}
     → a₁ ≡ one (p .role .talk)
@@ -27,9 +29,13 @@ pub row-by-parts : (p : Party) {a₁ a₂ a₃ a₄ a₅ a₆ a₇ a₈ a₉ a�
     → a₁₇ ≡ secondaryNumber (p .role .name .secondary)
     → a₁₈ ≡ markNumber (p .role .mark)
     → a₁₉ ≡ one (p .request .rsv2)
-    → _≡_ {A = List ℕ} (p .role .name .address .0 ∷ a₁ ∷ a₂ ∷ a₃ ∷ a₄ ∷ a₅ ∷ a₆ ∷ a₇ ∷ a₈ ∷ a₉ ∷ a₁₀ ∷ a₁₁ ∷ a₁₂ ∷ p .request .live ∷ p .request .saved ∷ a₁₅ ∷ a₁₆ ∷ a₁₇ ∷ a₁₈ ∷ a₁₉ ∷ 0 ∷ 0 ∷ 0 ∷ 0 ∷ []) (rowOf p)
+    → _≡_ {A = List ℕ} (p .role .name .address .0 ∷ a₁ ∷ a₂ ∷ a₃ ∷ a₄ ∷ a₅ ∷ a₆ ∷ a₇ ∷ a₈ ∷ a₉ ∷ a₁₀ ∷ a₁₁ ∷ a₁₂ ∷ p
+    .request .live ∷ p .request .saved ∷ a₁₅ ∷ a₁₆ ∷ a₁₇ ∷ a₁₈ ∷ a₁₉ ∷ 0 ∷ 0 ∷ 0 ∷ 0 ∷ []) (rowOf p)
 row-by-parts p e₁ e₂ e₃ e₄ e₅ e₆ e₇ e₈ e₉ e₁₀ e₁₁ e₁₂ e₁₅ e₁₆ e₁₇ e₁₈ e₁₉ = cc
 
-pub bus-by-parts : (ps : List Party) (r : List ℕ) {s : Standing} → s ≡ standingOf (byteAt r 2) (byteAt r 3) (byteAt r 4) (byteAt r 5)
-    → _≡_ {A = Bus} (record { parties = ps; count = byteAt r 0; system = place (byteAt r 1); standing = s }) (busWith ps r)
-bus-by-parts ps r e = ap (λ (x : Standing). record { parties = ps; count = byteAt r 0; system = place (byteAt r 1); standing = x }) e
+pub bus-by-parts : (ps : List Party) (r : List ℕ) {s : Standing}
+    → s ≡ standingOf (byteAt r 2) (byteAt r 3) (byteAt r 4) (byteAt r 5)
+    → _≡_ {A = Bus} (record { parties = ps; count = byteAt r 0; system = place (byteAt r 1); standing = s })
+    (busWith ps r)
+bus-by-parts ps r e = ap (λ (x : Standing). record
+    { parties = ps; count = byteAt r 0; system = place (byteAt r 1); standing = x }) e

@@ -1,5 +1,6 @@
--- A bus as bytes: sixteen rows of twenty-four, the party at place k in row k, and the rest of the bus in row 15. Bytes that no part has are 0.
--- Writing goes by the cases of each part; reading takes every row as something, so that no content is wrong.
+-- A bus as bytes: sixteen rows of twenty-four, the party at place k in row k, and the rest of the bus in row 15. Bytes
+-- that no part has are 0. Writing goes by the cases of each part; reading takes every row as something, so that no
+-- content is wrong.
 -- Assumes nothing.
 use Prim.Native.Nat.{ℕ}
 use mathlib.Core.Bool.{Bool, true, false, cond}
@@ -11,8 +12,11 @@ use Rattle.party.specs.Parts.{one}
 use Rattle.offer.specs.Offer.{isFull}
 use Rattle.parties.specs.Places.{place}
 use Rattle.effect.specs.Stands.{hasEnd}
-use Rattle.image.specs.Types.{Secondary, Absent, Given, Mark, Unmarked, TalkPrimary, ListenPrimary, Role, Party, Control, Idle, Standby, Active, Source, Sids, Sgns, Sdys, Strs, Acceptor, Aids, Anrs, Acrs, Acds, Awns}
-use Rattle.image.specs.Types.{Service, Nprs, Srqs, Aprs, Slot, Empty, Full, Kind, Command, Data, Status, Standing, Nothing, Byte, Bus}
+use Rattle.image.specs.Types.{Secondary, Absent, Given, Mark, Unmarked, TalkPrimary, ListenPrimary, Role, Party}
+use Rattle.image.specs.Types.{Control, Idle, Standby, Active, Source, Sids, Sgns, Sdys, Strs, Acceptor, Aids}
+use Rattle.image.specs.Types.{Anrs, Acrs, Acds, Awns}
+use Rattle.image.specs.Types.{Service, Nprs, Srqs, Aprs, Slot, Empty, Full, Kind, Command, Data, Status, Standing}
+use Rattle.image.specs.Types.{Nothing, Byte, Bus}
 
 -- The states by number, from 0 in the order of their declaration.
 abbrev pub markNumber : Mark → ℕ
@@ -152,7 +156,8 @@ abbrev pub byteOf : Kind → ℕ → ℕ → ℕ → Standing
 byteOf k s v e = Byte (place s) k v (flag e)
 
 abbrev pub standingOf : ℕ → ℕ → ℕ → ℕ → Standing
-standingOf tag s v e = cond (eqb tag 1) (byteOf Command s v e) (cond (eqb tag 2) (byteOf Data s v e) (cond (eqb tag 3) (byteOf Status s v e) Nothing))
+standingOf tag s v e = cond (eqb tag 1) (byteOf Command s v e)
+    (cond (eqb tag 2) (byteOf Data s v e) (cond (eqb tag 3) (byteOf Status s v e) Nothing))
 
 abbrev pub byteAt : List ℕ → ℕ → ℕ
 byteAt row k = getD row k 0
@@ -174,12 +179,22 @@ partyOf r = record {
   acceptor = acceptorOf (byteAt r 6);
   held = slotOf (byteAt r 7) (byteAt r 8) (byteAt r 9);
   input = slotOf (byteAt r 10) (byteAt r 11) (byteAt r 12);
-  request = record { live = byteAt r 13; saved = byteAt r 14; rsv2 = flag (byteAt r 19); service = serviceOf (byteAt r 15) };
+  request = record {
+    live = byteAt r 13;
+    saved = byteAt r 14;
+    rsv2 = flag (byteAt r 19);
+    service = serviceOf (byteAt r 15);
+  };
 }
 
 -- The bus with these parties, and the rest from the last row.
 abbrev pub busWith : List Party → List ℕ → Bus
-busWith ps r = record { parties = ps; count = byteAt r 0; system = place (byteAt r 1); standing = standingOf (byteAt r 2) (byteAt r 3) (byteAt r 4) (byteAt r 5) }
+busWith ps r = record {
+  parties = ps;
+  count = byteAt r 0;
+  system = place (byteAt r 1);
+  standing = standingOf (byteAt r 2) (byteAt r 3) (byteAt r 4) (byteAt r 5);
+}
 
 unfoldable pub busOf : List (List ℕ) → Bus
 busOf rows = busWith (map partyOf (take 15 rows)) (getD rows 15 [])

@@ -2,7 +2,8 @@
 ghost use mathlib.Core.Path.{_≡_};
 ghost use mathlib.Core.List.{map};
 ghost use lib.ListN.{take};
-ghost use Rattle.image.specs.Image.{flag, markOf, secondaryOf, roleOf, controlOf, sourceOf, acceptorOf, serviceOf, slotOf, byteOf, standingOf, partyOf, busWith, busOf};
+ghost use Rattle.image.specs.Image.{flag, markOf, secondaryOf, roleOf, controlOf, sourceOf, acceptorOf};
+ghost use Rattle.image.specs.Image.{serviceOf, slotOf, byteOf, standingOf, partyOf, busWith, busOf};
 use bus::Bus;
 use effect::Standing;
 use message::Address;

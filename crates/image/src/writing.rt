@@ -1,6 +1,7 @@
 // From a bus to its rows.
 ghost use mathlib.Core.Path.{_≡_};
-ghost use Rattle.image.specs.Image.{markNumber, hasSecondary, secondaryNumber, controlNumber, sourceNumber, acceptorNumber, serviceNumber, kindNumber, slotValue, slotEnd};
+ghost use Rattle.image.specs.Image.{markNumber, hasSecondary, secondaryNumber, controlNumber, sourceNumber};
+ghost use Rattle.image.specs.Image.{acceptorNumber, serviceNumber, kindNumber, slotValue, slotEnd};
 ghost use Rattle.image.specs.Image.{standingTag, standingSender, standingValue, rowOf, lastRow, rowsOf};
 use bus::Bus;
 use effect::Standing;

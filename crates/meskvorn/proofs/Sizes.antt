@@ -47,7 +47,8 @@ placed-size (suc n) [] = ap suc (placed-size n [])
 placed-size (suc n) (a ∷ xs) = ap suc (placed-size n xs)
 
 pub build-size : (xs : List Name) (s : Place) → Full (buildExtended xs s .bus)
-build-size xs s = either (badBuild xs s) (refuse ruling.BadBuild noParties) (refuse ruling.Accepted (built xs s)) (placed-size 15 []) (placed-size 15 xs)
+build-size xs s = either (badBuild xs s) (refuse ruling.BadBuild noParties) (refuse ruling.Accepted (built xs s))
+    (placed-size 15 []) (placed-size 15 xs)
 
 followed-size : (x : After) (atn : Bool) (b : Bus) (i : ℕ) (e : Effect) → Full b → Full (followed x atn b i e .bus)
 followed-size after.Settle atn b i e h = simp (length-each, length-set) h
@@ -61,7 +62,8 @@ call-size b c h =
     let l = lines b in
     let i = placeOf c .0 in
     let e = effectOf (viewAt (placeOf c) l b) c in
-    either (isAccepted (refusal l b c)) (accepted l b c) (refuse (refusal l b c) b) (followed-size (e .after) (l .atn) b i e h) h
+    either (isAccepted (refusal l b c)) (accepted l b c) (refuse (refusal l b c) b)
+    (followed-size (e .after) (l .atn) b i e h) h
 
 pub drivers-size : (b : Bus) → Full b → Full (drivers b .answer .bus)
 drivers-size b h = call-size b call-of.Drivers h
@@ -81,4 +83,5 @@ obey-size b order.Unknown h = h
 
 pub answer-size : (b : Bus) (op party value extra : ℕ) → Full b → Full (answerTo b op party value extra .bus)
 unfolding answerTo
-answer-size b op party value extra h = either (eqb op 0) (refuse ruling.BadValue b) (obey b (orderOf op party value extra)) h (obey-size b (orderOf op party value extra) h)
+answer-size b op party value extra h = either (eqb op 0) (refuse ruling.BadValue b)
+    (obey b (orderOf op party value extra)) h (obey-size b (orderOf op party value extra) h)

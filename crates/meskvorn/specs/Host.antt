@@ -31,7 +31,8 @@ countOf NoRoom = 18446744073709551615
 abbrev pub RanTo : List ℕ → List ℕ → List ℕ → ℕ → Type 0
 RanTo script before after n = (r : Ran) × ((n ≡ countOf r) × RanAs script before after r)
 
--- An operation by the number that it has in a script. Build, 0, takes a list of addresses and has a function of its own: here it is no operation.
+-- An operation by the number that it has in a script. Build, 0, takes a list of addresses and has a function of its
+-- own: here it is no operation.
 unfoldable pub answerTo : Bus → ℕ → ℕ → ℕ → ℕ → Answer
 answerTo b op party value extra = cond (eqb op 0) (refuse ruling.BadValue b) (obey b (orderOf op party value extra))
 
@@ -40,7 +41,8 @@ pub record Answered (a : Answer) (after : List (List ℕ)) (n : ℕ) : Type 0 wh
   pub said : n ≡ packed a
   pub rows : after ≡ rowsOf (a .bus)
 
--- A host was given these turns: the number is the refusal's, the counts are those of the places, and the rows are those of the bus after them.
+-- A host was given these turns: the number is the refusal's, the counts are those of the places, and the rows are those
+-- of the bus after them.
 pub record Gave (g : Given) (after : List (List ℕ)) (counts : List ℕ) (n : ℕ) : Type 0 where
   pub said : n ≡ refusalNumber (g .refusal)
   pub counted : counts ≡ g .counts
@@ -53,14 +55,15 @@ maskList m = m .atn ∷ m .dav ∷ m .nrfd ∷ m .ndac ∷ m .eoi ∷ m .srq ∷
 abbrev pub countList : Counts → List ℕ
 countList n = n .atn ∷ n .dav ∷ n .nrfd ∷ n .ndac ∷ n .eoi ∷ n .srq ∷ []
 
--- A host was told these drivers: the number is the answer's, masks and counts are those of the lines, and the rows are those of the bus after it.
+-- A host was told these drivers: the number is the answer's, masks and counts are those of the lines, and the rows are
+-- those of the bus after it.
 pub record Counted (d : Drivers) (after : List (List ℕ)) (masks counts : List ℕ) (n : ℕ) : Type 0 where
   pub said : n ≡ packed (d .answer)
   pub who : masks ≡ maskList (d .masks)
   pub number : counts ≡ countList (d .counts)
   pub rows : after ≡ rowsOf (d .answer .bus)
 
--- The name of the party at a place, as a number: its high byte, 255 or the secondary, tells the two sorts of party apart. The largest number of 16 bits
--- stands for no party.
+-- The name of the party at a place, as a number: its high byte, 255 or the secondary, tells the two sorts of party
+-- apart. The largest number of 16 bits stands for no party.
 abbrev pub nameNumber : Bus → ℕ → ℕ
 nameNumber b i = cond (isInside (b .count) i) (packedName (here b i .role .name)) 65535

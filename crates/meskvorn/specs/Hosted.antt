@@ -1,5 +1,5 @@
--- A list of operations, runs and questions who drives the lines, handed one by one to meskvorn_call, meskvorn_turns and meskvorn_drivers with the rows that the last one
--- left: the same as the machine does with its bus.
+-- A list of operations, runs and questions who drives the lines, handed one by one to meskvorn_call, meskvorn_turns and
+-- meskvorn_drivers with the rows that the last one left: the same as the machine does with its bus.
 -- Assumes nothing.
 use Prim.Native.Nat.{ℕ}
 use mathlib.Core.Path.{_≡_}
@@ -29,8 +29,9 @@ pub record Op : Type 0 where
 abbrev pub answerOf : Bus → Op → Answer
 answerOf b o = answerTo b (o .op) (o .party) (o .value) (o .extra)
 
--- What a host asks for: an operation, a run of so many turns, or who drives the lines; and what it is given: an answer's number, a refusal's with the counts of the places,
--- or an answer's with the masks and the counts of the lines.
+-- What a host asks for: an operation, a run of so many turns, or who drives the lines; and what it is given: an
+-- answer's number, a refusal's with the counts of the places, or an answer's with the masks and the counts of the
+-- lines.
 pub data Asked : Type 0 where
   call : Op → Asked
   run : ℕ → Asked
@@ -54,19 +55,24 @@ busAfter b (drivers-of-lines ∷ xs) = busAfter (drivers b .answer .bus) xs
 abbrev pub replies : Bus → List Asked → List Reply
 replies b [] = []
 replies b (call o ∷ xs) = answer (packed (answerOf b o)) ∷ replies (answerOf b o .bus) xs
-replies b (run t ∷ xs) = turns (refusalNumber (turnsOf b t .refusal)) (turnsOf b t .counts) ∷ replies (turnsOf b t .bus) xs
-replies b (drivers-of-lines ∷ xs) = driven (packed (drivers b .answer)) (maskList (drivers b .masks)) (countList (drivers b .counts)) ∷ replies (drivers b .answer .bus) xs
+replies b (run t ∷ xs) = turns (refusalNumber (turnsOf b t .refusal)) (turnsOf b t .counts) ∷ replies (turnsOf b t .bus)
+    xs
+replies b (drivers-of-lines ∷ xs) = driven (packed (drivers b .answer)) (maskList (drivers b .masks))
+    (countList (drivers b .counts)) ∷ replies (drivers b .answer .bus) xs
 
 -- A host asked for these, one by one, beginning with these rows; it was given these replies, and has the last rows.
 -- Nothing is known of each but what meskvorn_call, meskvorn_turns and meskvorn_drivers ensure.
 pub data Handed : List (List ℕ) → List Asked → List Reply → List (List ℕ) → Type 0 where
   none : {rows : List (List ℕ)} → Handed rows [] [] rows
   called : {rows next last : List (List ℕ)} {o : Op} {xs : List Asked} {n : ℕ} {rs : List Reply}
-      → Answered (answerOf (busOf rows) o) next n → Handed next xs rs last → Handed rows (call o ∷ xs) (answer n ∷ rs) last
+      → Answered (answerOf (busOf rows) o) next n → Handed next xs rs last
+      → Handed rows (call o ∷ xs) (answer n ∷ rs) last
   ran : {rows next last : List (List ℕ)} {t : ℕ} {xs : List Asked} {n : ℕ} {counts : List ℕ} {rs : List Reply}
-      → Gave (turnsOf (busOf rows) t) next counts n → Handed next xs rs last → Handed rows (run t ∷ xs) (turns n counts ∷ rs) last
+      → Gave (turnsOf (busOf rows) t) next counts n → Handed next xs rs last
+      → Handed rows (run t ∷ xs) (turns n counts ∷ rs) last
   asked : {rows next last : List (List ℕ)} {xs : List Asked} {n : ℕ} {masks counts : List ℕ} {rs : List Reply}
-      → Counted (drivers (busOf rows)) next masks counts n → Handed next xs rs last → Handed rows (drivers-of-lines ∷ xs) (driven n masks counts ∷ rs) last
+      → Counted (drivers (busOf rows)) next masks counts n → Handed next xs rs last
+      → Handed rows (drivers-of-lines ∷ xs) (driven n masks counts ∷ rs) last
 
 -- The replies and the rows are the machine's.
 pub record Same (b : Bus) (xs : List Asked) (rs : List Reply) (last : List (List ℕ)) : Type 0 where
@@ -75,9 +81,12 @@ pub record Same (b : Bus) (xs : List Asked) (rs : List Reply) (last : List (List
 
 -- Whoever keeps a bus of fifteen places as rows, and hands the rows to every one of them, has the machine.
 abbrev pub Hosted : Type 0
-Hosted = (b : Bus) → length (b .parties) ≡ 15 → (xs : List Asked) (rs : List Reply) (last : List (List ℕ)) → Handed (rowsOf b) xs rs last → Same b xs rs last
+Hosted = (b : Bus) → length (b .parties) ≡ 15 → (xs : List Asked) (rs : List Reply) (last : List (List ℕ))
+    → Handed (rowsOf b) xs rs last → Same b xs rs last
 
 -- So from every build on, with secondaries or without, also from a refused one, whatever the rows held before it.
 abbrev pub HostedFromBuild : Type 0
-HostedFromBuild = (names : List Name) (system : Place) (rows : List (List ℕ)) (n : ℕ) → Answered (buildExtended names system) rows n
-    → (xs : List Asked) (rs : List Reply) (last : List (List ℕ)) → Handed rows xs rs last → Same (buildExtended names system .bus) xs rs last
+HostedFromBuild = (names : List Name) (system : Place) (rows : List (List ℕ)) (n : ℕ)
+    → Answered (buildExtended names system) rows n
+    → (xs : List Asked) (rs : List Reply) (last : List (List ℕ)) → Handed rows xs rs last
+    → Same (buildExtended names system .bus) xs rs last

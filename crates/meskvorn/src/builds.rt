@@ -33,7 +33,11 @@ pub extern "C" fn meskvorn_build_extended(
     secondaries: &[u8],
     system: u8,
 ) -> u64
-    ensures { λ r. ⌜ Answered (buildExtended (names (now (addresses .entry)) (now (secondaries .entry))) (place system)) (now (bus .exit)) r ⌝ }
+    ensures { λ r.
+        ⌜
+        Answered (buildExtended (names (now (addresses .entry)) (now (secondaries .entry))) (place system))
+        (now (bus .exit)) r
+        ⌝ }
 {
     let a = Bus::build_extended(addresses, secondaries, Place(system));
     let made = a.bus;

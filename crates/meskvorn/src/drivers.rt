@@ -21,14 +21,19 @@ fn count_list(n: Counts) -> [u32; 6]
     [n.atn, n.dav, n.nrfd, n.ndac, n.eoi, n.srq]
 }
 
-// Who drives each line of the bus that the rows hold, to masks, and how many, to counts: ATN, DAV, NRFD, NDAC, EOI, SRQ. Gives the answer, which is never a refusal.
+// Who drives each line of the bus that the rows hold, to masks, and how many, to counts: ATN, DAV, NRFD, NDAC, EOI,
+// SRQ. Gives the answer, which is never a refusal.
 #[no_mangle]
 pub extern "C" fn meskvorn_drivers(
     bus: &mut [[u8; 24]; 16],
     masks: &mut [u16; 6],
     counts: &mut [u32; 6],
 ) -> u64
-    ensures { λ r. ⌜ Counted (drivers (busOf (now (bus .entry)))) (now (bus .exit)) (now (masks .exit)) (now (counts .exit)) r ⌝ }
+    ensures { λ r.
+        ⌜
+        Counted (drivers (busOf (now (bus .entry))))
+        (now (bus .exit)) (now (masks .exit)) (now (counts .exit)) r
+        ⌝ }
 {
     let rows = *bus;
     let before = bus_of(rows);

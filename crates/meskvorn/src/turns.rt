@@ -7,10 +7,15 @@ use image::reading::bus_of;
 use image::writing::rows_of;
 use runner::give_turns;
 
-// So many turns on the bus that the rows hold, each to the party that has waited longest. Gives the number of the refusal, and to counts how many turns each place had.
+// So many turns on the bus that the rows hold, each to the party that has waited longest. Gives the number of the
+// refusal, and to counts how many turns each place had.
 #[no_mangle]
 pub extern "C" fn meskvorn_turns(bus: &mut [[u8; 24]; 16], turns: u16, counts: &mut [u16; 15]) -> u8
-    ensures { λ r. ⌜ Gave (giveTurns byPlace (busOf (now (bus .entry))) turns) (now (bus .exit)) (now (counts .exit)) r ⌝ }
+    ensures { λ r.
+        ⌜
+        Gave (giveTurns byPlace (busOf (now (bus .entry))) turns)
+        (now (bus .exit)) (now (counts .exit)) r
+        ⌝ }
 {
     let rows = *bus;
     let before = bus_of(rows);

@@ -22,10 +22,11 @@ from f d (suc n) i (suc k) h = from f d n (suc i) k (le-of-suc-le-suc h) ∙ ap 
 pub at : {A : Type 0} (f : ℕ → A) (d : A) (l : List A) (n : ℕ) → l ≡ tabulate f 0 n → (k : ℕ) → k < n → getD l k d ≡ f k
 at {A = A} f d l n e k h = ap (λ (t : List A). getD t k d) e ∙ from f d n 0 k h ∙ ap f (zero-add k)
 
--- what the table says of a byte, decoded with the byte's low five bits, is the byte's meaningOf
+-- what the table says of a byte, decoded with the byte's low five bits, is the byte's meaning
 decoded : ℕ → Meaning
 decoded b = decode (codeOf (meaningOf b)) (b % 32)
 
 pub meant : (b : ℕ) → b < 256 → decode (codeOf (meaningOf b)) (b % 32) ≡ meaningOf b
 unfolding decoded decode meaningOf sevenBits named
-meant b h = sym (from decoded (meaningOf 0) 256 0 b h ∙ ap decoded (zero-add b)) ∙ at meaningOf (meaningOf 0) (tabulate decoded 0 256) 256 refl b h
+meant b h = sym (from decoded (meaningOf 0) 256 0 b h ∙ ap decoded (zero-add b))
+    ∙ at meaningOf (meaningOf 0) (tabulate decoded 0 256) 256 refl b h

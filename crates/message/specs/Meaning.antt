@@ -6,7 +6,8 @@ use lib.Dec.{ltb, eqb}
 use Rattle.message.specs.declared.Address.{Address}
 use Rattle.message.specs.declared.SecondaryAddress.{SecondaryAddress}
 use Rattle.message.specs.declared.Meaning.{Meaning}
-use Rattle.message.specs.declared.Meaning.the-variants.{Other, Listen, Unlisten, Talk, Untalk, Sdc, Get, Tct, Dcl, Spe, Spd, Second, Neither}
+use Rattle.message.specs.declared.Meaning.the-variants.{Other, Listen, Unlisten, Talk, Untalk, Sdc, Get, Tct, Dcl}
+use Rattle.message.specs.declared.Meaning.the-variants.{Spe, Spd, Second, Neither}
 
 abbrev pub address : ℕ → Address
 address a = record { 0 = a }
@@ -14,7 +15,7 @@ address a = record { 0 = a }
 abbrev pub secondary : ℕ → SecondaryAddress
 secondary s = record { 0 = s }
 
--- "04 SDC, 08 GET, 09 TCT, 14 DCL, 18 SPE, 19 SPD; all else no meaningOf"
+-- "04 SDC, 08 GET, 09 TCT, 14 DCL, 18 SPE, 19 SPD; all else no meaning"
 unfoldable pub named : ℕ → Meaning
 named n =
     cond (eqb n 0x04) Sdc
@@ -24,7 +25,8 @@ named n =
     (cond (eqb n 0x18) Spe
     (cond (eqb n 0x19) Spd Other)))))
 
--- "20+a listen address, 3F UNL, 40+a talk address, 5F UNT (a in 0..1E)". Document 02, Q-3: "60 to 7E secondaries, 7F neither".
+-- "20+a listen address, 3F UNL, 40+a talk address, 5F UNT (a in 0..1E)". Document 02, Q-3: "60 to 7E secondaries, 7F
+-- neither".
 unfoldable pub sevenBits : ℕ → Meaning
 sevenBits n =
     cond (ltb n 0x20) (named n)
@@ -38,7 +40,7 @@ sevenBits n =
 unfoldable pub meaningOf : ℕ → Meaning
 meaningOf b = sevenBits (b % 0x80)
 
--- The code that stands for a meaningOf in the constant table.
+-- The code that stands for a meaning in the constant table.
 abbrev pub codeOf : Meaning → ℕ
 codeOf Other = 0
 codeOf (Listen a) = 1
@@ -54,7 +56,7 @@ codeOf Spd = 10
 codeOf (Second s) = 11
 codeOf Neither = 12
 
--- The meaningOf of a code, with the number that the byte carries.
+-- The meaning of a code, with the number that the byte carries.
 unfoldable pub decode : ℕ → ℕ → Meaning
 decode c n =
     cond (eqb c 1) (Listen (address n))

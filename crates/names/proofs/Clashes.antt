@@ -1,4 +1,4 @@
--- Which names clashes: the laws that addressing needs.
+-- Which names clash: the laws that addressing needs.
 -- Assumes nothing.
 use mathlib.Core.Path.{_≡_, refl, sym, _∙_}
 use mathlib.Core.Bool.{Bool, true, false}
@@ -26,7 +26,8 @@ given-meets s Absent y e f = no (cc)
 given-meets s (Given t) Absent e f = no (cc)
 given-meets s (Given t) (Given v) e f = eq-eqb (t .0) (v .0) (sym (eqb-true (s .0) (t .0) e) ∙ eqb-true (s .0) (v .0) f)
 
-pub same-clash : (x y : Name) → x .address .0 ≡ y .address .0 → meets (x .secondary) (y .secondary) ≡ true → clashes x y ≡ true
+pub same-clash : (x y : Name) → x .address .0 ≡ y .address .0 → meets (x .secondary) (y .secondary) ≡ true
+    → clashes x y ≡ true
 same-clash x y e m = rw (eq-eqb (x .address .0) (y .address .0) e, m)
 
 -- clashing goes both ways
@@ -38,4 +39,5 @@ meets-sym (Given s) (Given t) e = eq-eqb (t .0) (s .0) (sym (eqb-true (s .0) (t 
 
 pub clash-sym : (x y : Name) → clashes x y ≡ true → clashes y x ≡ true
 clash-sym x y e = let z = both (eqb (x .address .0) (y .address .0)) (meets (x .secondary) (y .secondary)) e in
-    same-clash y x (sym (eqb-true (x .address .0) (y .address .0) (z .0))) (meets-sym (x .secondary) (y .secondary) (z .1))
+    same-clash y x (sym (eqb-true (x .address .0) (y .address .0) (z .0)))
+    (meets-sym (x .secondary) (y .secondary) (z .1))

@@ -17,11 +17,13 @@ pub test {ℓ} : {A : Type ℓ} (t : Bool) → (t ≡ true → A) → (t ≡ fal
 test true f g = f refl
 test false f g = g refl
 
-pub cond-elim {ℓ} : {A : Type 0} (P : A → Type ℓ) (t : Bool) {x y : A} → (t ≡ true → P x) → (t ≡ false → P y) → P (cond t x y)
+pub cond-elim {ℓ} : {A : Type 0} (P : A → Type ℓ) (t : Bool) {x y : A} → (t ≡ true → P x) → (t ≡ false → P y)
+    → P (cond t x y)
 cond-elim P true f g = f refl
 cond-elim P false f g = g refl
 
-pub cond-elim₂ {ℓ} : {A : Type 0} (P : A → A → Type ℓ) (t : Bool) {x y x′ y′ : A} → (t ≡ true → P x x′) → (t ≡ false → P y y′) → P (cond t x y) (cond t x′ y′)
+pub cond-elim₂ {ℓ} : {A : Type 0} (P : A → A → Type ℓ) (t : Bool) {x y x′ y′ : A} → (t ≡ true → P x x′)
+    → (t ≡ false → P y y′) → P (cond t x y) (cond t x′ y′)
 cond-elim₂ P true f g = f refl
 cond-elim₂ P false f g = g refl
 

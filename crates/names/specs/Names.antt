@@ -1,4 +1,5 @@
--- Names: what a build fixes of a party (document 02, Q-3: "A party may be built with a secondary address 0..30, or none").
+-- Names: what a build fixes of a party (document 02, Q-3: "A party may be built with a secondary address 0..30, or
+-- none").
 -- Assumes nothing.
 use mathlib.Core.Bool.{Bool, true, false, _&&_, _||_}
 use lib.Dec.{ltb, eqb}
@@ -20,7 +21,8 @@ secondaryIsOver30 (Given s) = ltb 30 (s .0)
 abbrev pub isOver30 : Name → Bool
 isOver30 n = ltb 30 (n .address .0) || secondaryIsOver30 (n .secondary)
 
--- "Two parties may share a primary only if both have secondaries and these differ": two names that one bus may not have.
+-- "Two parties may share a primary only if both have secondaries and these differ": two names that one bus may not
+-- have.
 abbrev pub meets : Secondary → Secondary → Bool
 meets Absent t = true
 meets (Given s) Absent = true

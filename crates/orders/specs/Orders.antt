@@ -16,8 +16,9 @@ use Rattle.bus.specs.Machine.{call}
 use Rattle.orders.specs.declared.Order.{Order}
 use Rattle.orders.specs.declared.Order.the-variants as order
 
--- "Operations, decimal: 0 build (system party; value parties with addresses extra, extra+1, ..), 1 step, 2 write (extra END), 3 read, 4 poll register,
--- 5 listen-only, 6 talk-only, 7 take control, 8 standby, 9 clear, 10 reset, 11 drop, 12 lines (no party). Unused fields are ignored." Document 02, Q-5: 13 second request.
+-- "Operations, decimal: 0 build (system party; value parties with addresses extra, extra+1, ..), 1 step, 2 write (extra
+-- END), 3 read, 4 poll register, 5 listen-only, 6 talk-only, 7 take control, 8 standby, 9 clear, 10 reset, 11 drop, 12
+-- lines (no party). Unused fields are ignored." Document 02, Q-5: 13 second request.
 unfoldable pub orderOf : ℕ → ℕ → ℕ → ℕ → Order
 orderOf op party value extra =
     cond (eqb op 0) (order.Build (place party) value extra) (

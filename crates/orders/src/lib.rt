@@ -63,7 +63,8 @@ fn count_up(first: u8) -> [u8; 15]
     ]
 }
 
-// More than fifteen parties, or a first address over 30, make no bus whatever else the record has: no more than a build of no addresses.
+// More than fifteen parties, or a first address over 30, make no bus whatever else the record has: no more than a build
+// of no addresses.
 fn build_from(system: Place, n: u8, first: u8) -> Answer
     ensures { λ r. ⌜ r ≡ buildFrom system n first ⌝ }
 {

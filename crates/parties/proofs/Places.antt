@@ -36,7 +36,8 @@ length-each zero f ps = refl
 length-each (suc n) f [] = refl
 length-each (suc n) f (p ∷ ps) = ap suc (length-each n f ps)
 
-pub each-below : (n : ℕ) (f : Party → Party) (ps : List Party) (j : ℕ) → j < n → n ≤ length ps → at (each n f ps) j ≡ f (at ps j)
+pub each-below : (n : ℕ) (f : Party → Party) (ps : List Party) (j : ℕ) → j < n → n ≤ length ps
+    → at (each n f ps) j ≡ f (at ps j)
 each-below zero f ps j h l = absurd (not-suc-le-zero h)
 each-below (suc n) f [] j h l = absurd (not-suc-le-zero l)
 each-below (suc n) f (p ∷ ps) zero h l = refl
@@ -48,7 +49,8 @@ each-past (suc n) f [] j h = refl
 each-past (suc n) f (p ∷ ps) zero h = absurd (not-suc-le-zero h)
 each-past (suc n) f (p ∷ ps) (suc j) h = each-past n f ps j (le-of-suc-le-suc h)
 
-pub at-each : (n : ℕ) (f : Party → Party) (ps : List Party) → n ≤ length ps → at (each n f ps) ≡ (λ j. cond (ltb j n) (f (at ps j)) (at ps j))
+pub at-each : (n : ℕ) (f : Party → Party) (ps : List Party) → n ≤ length ps
+    → at (each n f ps) ≡ (λ j. cond (ltb j n) (f (at ps j)) (at ps j))
 at-each n f ps l = fun-ext (λ j. go j (ltb j n) refl)
   where
     go : (j : ℕ) (x : Bool) → ltb j n ≡ x → at (each n f ps) j ≡ cond x (f (at ps j)) (at ps j)
@@ -56,12 +58,14 @@ at-each n f ps l = fun-ext (λ j. go j (ltb j n) refl)
     go j false e = each-past n f ps j (ltb-false j n e)
 
 -- a change that leaves the idle party as it is reaches every place
-pub at-each-all : (n : ℕ) (f : Party → Party) (ps : List Party) → f idle ≡ idle → n ≤ length ps → Tail n ps → at (each n f ps) ≡ (λ j. f (at ps j))
+pub at-each-all : (n : ℕ) (f : Party → Party) (ps : List Party) → f idle ≡ idle → n ≤ length ps → Tail n ps
+    → at (each n f ps) ≡ (λ j. f (at ps j))
 at-each-all n f ps k l tail = fun-ext (λ j. go j (ltb j n) refl)
   where
     go : (j : ℕ) (x : Bool) → ltb j n ≡ x → at (each n f ps) j ≡ f (at ps j)
     go j true e = each-below n f ps j (ltb-true j n e) l
-    go j false e = each-past n f ps j (ltb-false j n e) ∙ tail j (ltb-false j n e) ∙ sym k ∙ ap f (sym (tail j (ltb-false j n e)))
+    go j false e = each-past n f ps j (ltb-false j n e) ∙ tail j (ltb-false j n e) ∙ sym k
+        ∙ ap f (sym (tail j (ltb-false j n e)))
 
 -- a change of parties that it leaves as they are
 pub each-still : (n : ℕ) (f : Party → Party) (ps : List Party) → ((j : ℕ) → f (at ps j) ≡ at ps j) → each n f ps ≡ ps
@@ -77,21 +81,24 @@ each-each (suc n) f g (p ∷ ps) = ap (_∷_ (f (g p))) (each-each n f g ps)
 
 -- a part of the parties that a store, or a change of every party, leaves wherever it leaves it of one
 module _ {A : Type 0} (part : Party → A) where
-  pub set-part : (ps : List Party) (i : ℕ) (q : Party) → part q ≡ part (at ps i) → (j : ℕ) → part (at (set ps i q) j) ≡ part (at ps j)
+  pub set-part : (ps : List Party) (i : ℕ) (q : Party) → part q ≡ part (at ps i) → (j : ℕ)
+      → part (at (set ps i q) j) ≡ part (at ps j)
   set-part [] i q e j = refl
   set-part (p ∷ ps) zero q e zero = e
   set-part (p ∷ ps) zero q e (suc j) = refl
   set-part (p ∷ ps) (suc i) q e zero = refl
   set-part (p ∷ ps) (suc i) q e (suc j) = set-part ps i q e j
 
-  pub each-part : (n : ℕ) (f : Party → Party) (ps : List Party) → ((p : Party) → part (f p) ≡ part p) → (j : ℕ) → part (at (each n f ps) j) ≡ part (at ps j)
+  pub each-part : (n : ℕ) (f : Party → Party) (ps : List Party) → ((p : Party) → part (f p) ≡ part p) → (j : ℕ)
+      → part (at (each n f ps) j) ≡ part (at ps j)
   each-part zero f ps h j = refl
   each-part (suc n) f [] h j = refl
   each-part (suc n) f (p ∷ ps) h zero = h p
   each-part (suc n) f (p ∷ ps) h (suc j) = each-part n f ps h j
 
 -- some
-pub some-at : (n : ℕ) (f : Party → Bool) (ps : List Party) → f idle ≡ false → (j : ℕ) → j < n → f (at ps j) ≡ true → some n f ps ≡ true
+pub some-at : (n : ℕ) (f : Party → Bool) (ps : List Party) → f idle ≡ false → (j : ℕ) → j < n → f (at ps j) ≡ true
+    → some n f ps ≡ true
 some-at zero f ps h j l e = absurd (not-suc-le-zero l)
 some-at (suc n) f [] h j l e = sym h ∙ e
 some-at (suc n) f (p ∷ ps) h zero l e = rw e
@@ -100,7 +107,8 @@ some-at (suc n) f (p ∷ ps) h (suc j) l e = or-right (f p) (some-at n f ps h j 
 -- where only the first n places have parties, any place will do
 module _ (n : ℕ) (f : Party → Bool) (ps : List Party) (h : f idle ≡ false) (tail : Tail n ps) where
   pub some-seen : (j : ℕ) → f (at ps j) ≡ true → some n f ps ≡ true
-  some-seen j e = test (ltb j n) (λ l. some-at n f ps h j (ltb-true j n l) e) (λ l. let z = ap f (tail j (ltb-false j n l)) in no (cc))
+  some-seen j e = test (ltb j n) (λ l. some-at n f ps h j (ltb-true j n l) e)
+      (λ l. let z = ap f (tail j (ltb-false j n l)) in no (cc))
 
   pub some-none : some n f ps ≡ false → (j : ℕ) → f (at ps j) ≡ false
   some-none e j = test (f (at ps j)) (λ q. let z = some-seen j q in no (cc)) (λ q. q)
@@ -110,35 +118,42 @@ some-true zero f ps e = no (cc)
 some-true (suc n) f [] e = no (cc)
 some-true (suc n) f (p ∷ ps) e = go (f p) refl (some-true n f ps) e
   where
-    go : (x : Bool) → f p ≡ x → (some n f ps ≡ true → (j : ℕ) × (f (at ps j) ≡ true)) → (x || some n f ps) ≡ true → (j : ℕ) × (f (at (p ∷ ps) j) ≡ true)
+    go : (x : Bool) → f p ≡ x → (some n f ps ≡ true → (j : ℕ) × (f (at ps j) ≡ true)) → (x || some n f ps) ≡ true
+        → (j : ℕ) × (f (at (p ∷ ps) j) ≡ true)
     go true q r h = (0, q)
     go false q r h = let s = r h in (suc (s .0), s .1)
 
-pub some-set : (n : ℕ) (f : Party → Bool) (ps : List Party) (i : ℕ) (q : Party) → f q ≡ f (at ps i) → some n f (set ps i q) ≡ some n f ps
+pub some-set : (n : ℕ) (f : Party → Bool) (ps : List Party) (i : ℕ) (q : Party) → f q ≡ f (at ps i)
+    → some n f (set ps i q) ≡ some n f ps
 some-set zero f ps i q e = refl
 some-set (suc n) f [] i q e = refl
 some-set (suc n) f (p ∷ ps) zero q e = rw e
 some-set (suc n) f (p ∷ ps) (suc i) q e = ap (λ (x : Bool). f p || x) (some-set n f ps i q e)
 
-pub some-each : (n : ℕ) (f : Party → Bool) (g : Party → Party) (ps : List Party) → ((p : Party) → f (g p) ≡ f p) → some n f (each n g ps) ≡ some n f ps
+pub some-each : (n : ℕ) (f : Party → Bool) (g : Party → Party) (ps : List Party) → ((p : Party) → f (g p) ≡ f p)
+    → some n f (each n g ps) ≡ some n f ps
 some-each zero f g ps h = refl
 some-each (suc n) f g [] h = refl
 some-each (suc n) f g (p ∷ ps) h = rw h (ap (λ (x : Bool). f p || x) (some-each n f g ps h))
 
 -- total
-pub total-set : (n : ℕ) (f : Party → ℕ) (ps : List Party) (i : ℕ) (q : Party) → i < n → i < length ps → total n f (set ps i q) + f (at ps i) ≡ total n f ps + f q
+pub total-set : (n : ℕ) (f : Party → ℕ) (ps : List Party) (i : ℕ) (q : Party) → i < n → i < length ps
+    → total n f (set ps i q) + f (at ps i) ≡ total n f ps + f q
 total-set zero f ps i q l h = absurd (not-suc-le-zero l)
 total-set (suc n) f [] i q l h = absurd (not-suc-le-zero h)
 total-set (suc n) f (p ∷ ps) zero q l h = omega arith
-total-set (suc n) f (p ∷ ps) (suc i) q l h = let r = total-set n f ps i q (le-of-suc-le-suc l) (le-of-suc-le-suc h) in omega arith
+total-set (suc n) f (p ∷ ps) (suc i) q l h = let r = total-set n f ps i q (le-of-suc-le-suc l) (le-of-suc-le-suc h) in
+    omega arith
 
-pub total-each : (n : ℕ) (f : Party → ℕ) (g : Party → Party) (ps : List Party) → ((p : Party) → f (g p) ≡ f p) → total n f (each n g ps) ≡ total n f ps
+pub total-each : (n : ℕ) (f : Party → ℕ) (g : Party → Party) (ps : List Party) → ((p : Party) → f (g p) ≡ f p)
+    → total n f (each n g ps) ≡ total n f ps
 total-each zero f g ps h = refl
 total-each (suc n) f g [] h = refl
 total-each (suc n) f g (p ∷ ps) h = rw h (ap (λ (x : ℕ). f p + x) (total-each n f g ps h))
 
 -- two ways to count the same of each party
-pub total-split : (n : ℕ) (f h : Party → ℕ) (g : Party → Party) (ps : List Party) → ((p : Party) → f (g p) + h p ≡ f p) → total n f (each n g ps) + total n h ps ≡ total n f ps
+pub total-split : (n : ℕ) (f h : Party → ℕ) (g : Party → Party) (ps : List Party) → ((p : Party) → f (g p) + h p ≡ f p)
+    → total n f (each n g ps) + total n h ps ≡ total n f ps
 total-split zero f h g ps k = refl
 total-split (suc n) f h g [] k = refl
 total-split (suc n) f h g (p ∷ ps) k = let r = total-split n f h g ps k in let e = k p in omega arith
@@ -149,7 +164,8 @@ total-zero (suc n) f [] h = refl
 total-zero (suc n) f (p ∷ ps) h = let r = total-zero n f ps (λ j. h (suc j)) in let z = h 0 in omega arith
 
 -- firstFrom
-pub first-found : (i n : ℕ) (f : Party → Bool) (ps : List Party) (p : Place) → firstFrom i n f ps ≡ At p → (d : ℕ) × ((p .0 ≡ i + d) × (f (at ps d) ≡ true))
+pub first-found : (i n : ℕ) (f : Party → Bool) (ps : List Party) (p : Place) → firstFrom i n f ps ≡ At p
+    → (d : ℕ) × ((p .0 ≡ i + d) × (f (at ps d) ≡ true))
 first-found i zero f ps p e = no (cc)
 first-found i (suc n) f [] p e = no (cc)
 first-found i (suc n) f (x ∷ ps) p e = go (f x) refl e (first-found (suc i) n f ps p)
@@ -160,7 +176,8 @@ first-found i (suc n) f (x ∷ ps) p e = go (f x) refl e (first-found (suc i) n 
     go true h e r = let z : place i ≡ p = cc in let y = ap (λ (q : Place). q .0) z in (0, (omega arith, h))
     go false h e r = let s = r e in let y = s .1 .0 in (suc (s .0), (omega arith, s .1 .1))
 
-pub first-none : (i n : ℕ) (f : Party → Bool) (ps : List Party) → f idle ≡ false → firstFrom i n f ps ≡ Nowhere → (d : ℕ) → d < n → f (at ps d) ≡ false
+pub first-none : (i n : ℕ) (f : Party → Bool) (ps : List Party) → f idle ≡ false → firstFrom i n f ps ≡ Nowhere
+    → (d : ℕ) → d < n → f (at ps d) ≡ false
 first-none i zero f ps h e d l = absurd (not-suc-le-zero l)
 first-none i (suc n) f [] h e d l = h
 first-none i (suc n) f (x ∷ ps) h e d l = go (f x) refl e d l (first-none (suc i) n f ps h)

@@ -36,16 +36,21 @@ sweptFrom k n ps = record {
 abbrev none : Sweep
 none = record { atn = 0; dav = 0; nrfd = 0; ndac = 0; srq = 0; talk = 0 }
 
--- The laws of the loop. At first no place has been seen; the party at place k comes in below those from k + 1 on; at last all places have been.
+-- The laws of the loop. At first no place has been seen; the party at place k comes in below those from k + 1 on; at
+-- last all places have been.
 pub swept-none : (n k : ℕ) (ps : List Party) → k ≡ n → none ≡ sweptFrom k n ps
 swept-none n k ps e = let z : n - k ≡ 0 = omega arith in rw z refl
 
-pub swept-down : (n k : ℕ) (ps : List Party) {s r : Sweep} → 0 < k → k ≤ n → n ≤ 15 → s ≡ sweptFrom k n ps → r ≡ sweptBy s (at ps (k - 1)) → r ≡ sweptFrom (k - 1) n ps
+pub swept-down : (n k : ℕ) (ps : List Party) {s r : Sweep} → 0 < k → k ≤ n → n ≤ 15 → s ≡ sweptFrom k n ps
+    → r ≡ sweptBy s (at ps (k - 1)) → r ≡ sweptFrom (k - 1) n ps
 swept-down n k ps h l v e d = let z : suc (k - 1) ≡ k = omega arith in
-    d ∙ ap (λ (x : Sweep). sweptBy x (at ps (k - 1))) (e ∙ ap (λ (x : ℕ). sweptFrom x n ps) (sym z)) ∙ rw (go isActive, go drivesDav, go drivesNrfd, go drivesNdac, go drivesSrq, go talks) refl
+    d ∙ ap (λ (x : Sweep). sweptBy x (at ps (k - 1))) (e ∙ ap (λ (x : ℕ). sweptFrom x n ps) (sym z))
+    ∙ rw (go isActive, go drivesDav, go drivesNrfd, go drivesNdac, go drivesSrq, go talks) refl
   where
-    go : (f : Party → Bool) → pushed (bits (suc (k - 1)) (n - suc (k - 1)) (λ i. f (at ps i))) (f (at ps (k - 1))) ≡ bits (k - 1) (n - (k - 1)) (λ i. f (at ps i))
-    go f = down n (k - 1) (λ i. f (at ps i)) (bits (suc (k - 1)) (n - suc (k - 1)) (λ i. f (at ps i))) (omega arith) v refl
+    go : (f : Party → Bool) → pushed (bits (suc (k - 1)) (n - suc (k - 1)) (λ i. f (at ps i))) (f (at ps (k - 1))) ≡
+        bits (k - 1) (n - (k - 1)) (λ i. f (at ps i))
+    go f = down n (k - 1) (λ i. f (at ps i)) (bits (suc (k - 1)) (n - suc (k - 1)) (λ i. f (at ps i))) (omega arith) v
+        refl
 
 pub swept-all : (n k : ℕ) (ps : List Party) {s : Sweep} → k ≤ 0 → s ≡ sweptFrom k n ps → s ≡ sweepOf n ps
 swept-all n k ps l e = let z : n - k ≡ n = omega arith in let y : k ≡ 0 = omega arith in e ∙ rw (z, y) refl
@@ -61,13 +66,22 @@ module _ (n : ℕ) (ps : List Party) (z : length ps ≡ 15) where
   pub talker-found : (i : ℕ) → firstOf (without (mask (within n) (λ j. talks (at ps j))) i) ≡ otherTalker n i ps
   talker-found i = let w = within-le n in
       rw (without-mask (within n) i (λ j. talks (at ps j)) w)
-      (sym (first-mask (within n) talks (set ps i idle) (λ j. not (eqb j i) && talks (at ps j)) w (rw (length-set ps i idle) (omega arith)) beside)
+      (sym (first-mask (within n) talks (set ps i idle) (λ j. not (eqb j i) && talks (at ps j)) w
+      (rw (length-set ps i idle) (omega arith)) beside)
       ∙ within-same (λ k. otherTalker k i ps) n (other-all i n ps z))
     where
       beside : (j : ℕ) → j < within n → (not (eqb j i) && talks (at ps j)) ≡ talks (at (set ps i idle) j)
       beside j l = test (eqb j i)
-          (λ e. let w = within-le n in let q : j ≡ i = eqb-true j i e in rw (e, q, getD-set-same ps i idle idle (omega arith)) refl)
+          (λ e. let w = within-le n in let q : j ≡ i = eqb-true j i e in
+          rw (e, q, getD-set-same ps i idle idle (omega arith)) refl)
           (λ e. rw (e, getD-set-other ps i j idle idle (eqb-false j i e)) refl)
 
   pub told-scan : (i : ℕ) (eoi : Bool) → told (sweepOf (within n) ps) i eoi ≡ scanOf i n ps eoi
-  told-scan i eoi = rw (line-on isActive, line-on drivesDav, line-on drivesNrfd, line-on drivesNdac, line-on drivesSrq, talker-found i) refl
+  told-scan i eoi = rw (
+    line-on isActive,
+    line-on drivesDav,
+    line-on drivesNrfd,
+    line-on drivesNdac,
+    line-on drivesSrq,
+    talker-found i,
+  ) refl

@@ -1,4 +1,5 @@
--- The lines of the bus, the lines answer, and who drives a line: as sixteen bits, and how many they are (document 02, Q-4).
+-- The lines of the bus, the lines answer, and who drives a line: as sixteen bits, and how many they are (document 02,
+-- Q-4).
 -- Assumes nothing.
 use Prim.Native.Nat.{ℕ, _+_, zero, suc, _*_}
 use mathlib.Core.Bool.{Bool, cond, not}
@@ -10,8 +11,8 @@ use Rattle.party.specs.Parts.{one}
 use Rattle.parties.specs.Types.{Party, Lines, Scan, Masks, Counts}
 use Rattle.parties.specs.Places.{some, otherTalker}
 
--- "ATN: some party is active. DAV: some source in STRS. NRFD: some acceptor in ANRS, ACDS or AWNS. NDAC: some acceptor in ANRS,
--- ACRS or ACDS. EOI: the standing byte has END. SRQ: some service in SRQS."
+-- "ATN: some party is active. DAV: some source in STRS. NRFD: some acceptor in ANRS, ACDS or AWNS. NDAC: some acceptor
+-- in ANRS, ACRS or ACDS. EOI: the standing byte has END. SRQ: some service in SRQS."
 abbrev pub linesOf : ℕ → List Party → Bool → Lines
 linesOf n ps eoi = record {
   atn = some n isActive ps;
@@ -31,9 +32,11 @@ abbrev pub weight : ℕ → Bool → ℕ
 weight w on = cond on w 0
 
 abbrev pub linesByte : Lines → ℕ
-linesByte l = weight 128 (l .atn) + weight 64 (l .dav) + weight 32 (l .ndac) + weight 16 (l .nrfd) + weight 8 (l .eoi) + weight 4 (l .srq)
+linesByte l = weight 128 (l .atn) + weight 64 (l .dav) + weight 32 (l .ndac) + weight 16 (l .nrfd) + weight 8 (l .eoi)
+    + weight 4 (l .srq)
 
--- "hold the parties that drive a line as sixteen bits, one per party": of the d places from i on, those that f holds of, with place i the lowest bit.
+-- "hold the parties that drive a line as sixteen bits, one per party": of the d places from i on, those that f holds
+-- of, with place i the lowest bit.
 abbrev pub bits : ℕ → ℕ → (ℕ → Bool) → ℕ
 bits i zero f = 0
 bits i (suc d) f = one (f i) + 2 * bits (suc i) d f
@@ -56,4 +59,11 @@ isOn m = not (eqb m 0)
 
 -- "as the count of ones"
 abbrev pub countsOf : Masks → Counts
-countsOf m = record { atn = ones (m .atn); dav = ones (m .dav); nrfd = ones (m .nrfd); ndac = ones (m .ndac); eoi = ones (m .eoi); srq = ones (m .srq) }
+countsOf m = record {
+  atn = ones (m .atn);
+  dav = ones (m .dav);
+  nrfd = ones (m .nrfd);
+  ndac = ones (m .ndac);
+  eoi = ones (m .eoi);
+  srq = ones (m .srq);
+}

@@ -54,7 +54,8 @@ abbrev pub isFound : Found → Bool
 isFound Nowhere = false
 isFound (At p) = true
 
--- How the code goes through the places, of which there are fifteen: which place a number is, and the first where it is none; one change for every party.
+-- How the code goes through the places, of which there are fifteen: which place a number is, and the first where it is
+-- none; one change for every party.
 abbrev pub within : ℕ → ℕ
 within n = cond (ltb n 15) n 15
 

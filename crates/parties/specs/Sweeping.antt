@@ -1,4 +1,5 @@
--- How the code makes masks and reads them: one pass over the parties, from the last to the first, and what a call is told by it.
+-- How the code makes masks and reads them: one pass over the parties, from the last to the first, and what a call is
+-- told by it.
 -- Assumes nothing.
 use Prim.Native.Nat.{ℕ, _+_, _*_, _-_, _/_, _%_, _^_}
 use mathlib.Core.Bool.{Bool, cond}
@@ -47,7 +48,14 @@ firstOf m = cond (eqb m 0) Nowhere (At (place (trailingZeros 16 m)))
 -- What the party at place i is told.
 abbrev pub told : Sweep → ℕ → Bool → Scan
 told s i eoi = record {
-  lines = record { atn = isOn (s .atn); dav = isOn (s .dav); nrfd = isOn (s .nrfd); ndac = isOn (s .ndac); eoi = eoi; srq = isOn (s .srq) };
+  lines = record {
+    atn = isOn (s .atn);
+    dav = isOn (s .dav);
+    nrfd = isOn (s .nrfd);
+    ndac = isOn (s .ndac);
+    eoi = eoi;
+    srq = isOn (s .srq);
+  };
   talker = firstOf (without (s .talk) i);
 }
 

@@ -1,4 +1,5 @@
-// The parties that drive each line, as masks: one pass over the parties makes them, and they tell the lines, the other talker, and how many drive each line.
+// The parties that drive each line, as masks: one pass over the parties makes them, and they tell the lines, the other
+// talker, and how many drive each line.
 ghost use mathlib.Core.Path.{_≡_};
 ghost use mathlib.Core.Bool.{cond};
 ghost use lib.Dec.{eqb};

@@ -51,7 +51,11 @@ settled-other t p h = rw h
 
 -- settling twice is settling once
 pub settled-twice : (t : Bool) (p : Party) → settled t (settled t p) ≡ settled t p
-settled-twice t p = rw (src (isSource t p) (p .source), live (isPolled t p) (p .request .live) (p .request .saved), serve (p .request .service) (asks (liveSettled (isPolled t p) (p .request)) (p .request .rsv2)) (isPolled t p)) refl
+settled-twice t p = rw (
+  src (isSource t p) (p .source),
+  live (isPolled t p) (p .request .live) (p .request .saved),
+  serve (p .request .service) (asks (liveSettled (isPolled t p) (p .request)) (p .request .rsv2)) (isPolled t p),
+) refl
   where
     src : (x : Bool) (s : Source) → sourceSettled x (sourceSettled x s) ≡ sourceSettled x s
     src true Sids = refl
@@ -80,7 +84,8 @@ settled-twice t p = rw (src (isSource t p) (p .source), live (isPolled t p) (p .
 pub source-of-active : (t : Bool) (p : Party) → isActive p ≡ true → isSource t p ≡ true
 source-of-active t p e = rw e
 
-pub source-case : (t : Bool) (p : Party) → isSource t p ≡ true → (isActive p ≡ true) ⊎ ((t ≡ false) × (p .role .talk ≡ true))
+pub source-case : (t : Bool) (p : Party) → isSource t p ≡ true
+    → (isActive p ≡ true) ⊎ ((t ≡ false) × (p .role .talk ≡ true))
 source-case t p = go (isActive p) t (p .role .talk)
   where
     go : (x t y : Bool) → (x || (not t && y)) ≡ true → (x ≡ true) ⊎ ((t ≡ false) × (y ≡ true))

@@ -1,7 +1,8 @@
 -- What one party drives (document 01, "Lines" and "A party drives DAV in STRS, and ATN when it is active").
 -- Assumes nothing.
 use mathlib.Core.Bool.{Bool, true, false}
-use Rattle.party.specs.Types.{Control, Idle, Standby, Active, Source, Sids, Sgns, Sdys, Strs, Acceptor, Aids, Anrs, Acrs, Acds, Awns, Service, Nprs, Srqs, Aprs, Party}
+use Rattle.party.specs.Types.{Control, Idle, Standby, Active, Source, Sids, Sgns, Sdys, Strs, Acceptor, Aids}
+use Rattle.party.specs.Types.{Anrs, Acrs, Acds, Awns, Service, Nprs, Srqs, Aprs, Party}
 
 -- "ATN: some party is active."
 abbrev pub active : Control → Bool

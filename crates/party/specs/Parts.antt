@@ -6,7 +6,8 @@ use Rattle.message.specs.Meaning.{address}
 use Rattle.names.specs.Names.{plain}
 use Rattle.role.specs.Roles.{unaddressed}
 use Rattle.offer.specs.Offer.{isFull}
-use Rattle.party.specs.Types.{Name, Role, Request, Party, Control, Source, Acceptor, Slot, Idle, Sids, Aids, Empty, Nprs}
+use Rattle.party.specs.Types.{Name, Role, Request, Party, Control, Source, Acceptor, Slot, Idle, Sids, Aids}
+use Rattle.party.specs.Types.{Empty, Nprs}
 
 -- "All flags are off, control idle, SIDS, AIDS, nothing held, poll registers 0, NPRS."
 abbrev pub builtParty : Name → Party
@@ -34,22 +35,78 @@ heldBytes p = one (isFull (p .held))
 
 -- A party with one part changed: each part once.
 abbrev pub withRole : Role → Party → Party
-withRole r p = record { role = r; control = p .control; source = p .source; acceptor = p .acceptor; held = p .held; input = p .input; request = p .request }
+withRole r p = record {
+  role = r;
+  control = p .control;
+  source = p .source;
+  acceptor = p .acceptor;
+  held = p .held;
+  input = p .input;
+  request = p .request;
+}
 
 abbrev pub withControl : Control → Party → Party
-withControl c p = record { role = p .role; control = c; source = p .source; acceptor = p .acceptor; held = p .held; input = p .input; request = p .request }
+withControl c p = record {
+  role = p .role;
+  control = c;
+  source = p .source;
+  acceptor = p .acceptor;
+  held = p .held;
+  input = p .input;
+  request = p .request;
+}
 
 abbrev pub withSource : Source → Party → Party
-withSource s p = record { role = p .role; control = p .control; source = s; acceptor = p .acceptor; held = p .held; input = p .input; request = p .request }
+withSource s p = record {
+  role = p .role;
+  control = p .control;
+  source = s;
+  acceptor = p .acceptor;
+  held = p .held;
+  input = p .input;
+  request = p .request;
+}
 
 abbrev pub withAcceptor : Acceptor → Party → Party
-withAcceptor a p = record { role = p .role; control = p .control; source = p .source; acceptor = a; held = p .held; input = p .input; request = p .request }
+withAcceptor a p = record {
+  role = p .role;
+  control = p .control;
+  source = p .source;
+  acceptor = a;
+  held = p .held;
+  input = p .input;
+  request = p .request;
+}
 
 abbrev pub withHeld : Slot → Party → Party
-withHeld s p = record { role = p .role; control = p .control; source = p .source; acceptor = p .acceptor; held = s; input = p .input; request = p .request }
+withHeld s p = record {
+  role = p .role;
+  control = p .control;
+  source = p .source;
+  acceptor = p .acceptor;
+  held = s;
+  input = p .input;
+  request = p .request;
+}
 
 abbrev pub withInput : Slot → Party → Party
-withInput s p = record { role = p .role; control = p .control; source = p .source; acceptor = p .acceptor; held = p .held; input = s; request = p .request }
+withInput s p = record {
+  role = p .role;
+  control = p .control;
+  source = p .source;
+  acceptor = p .acceptor;
+  held = p .held;
+  input = s;
+  request = p .request;
+}
 
 abbrev pub withRequest : Request → Party → Party
-withRequest q p = record { role = p .role; control = p .control; source = p .source; acceptor = p .acceptor; held = p .held; input = p .input; request = q }
+withRequest q p = record {
+  role = p .role;
+  control = p .control;
+  source = p .source;
+  acceptor = p .acceptor;
+  held = p .held;
+  input = p .input;
+  request = q;
+}

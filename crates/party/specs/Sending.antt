@@ -1,4 +1,5 @@
--- What a source offers, what putting it leaves of the party, and what hearing does to one (document 01, "A step of party p").
+-- What a source offers, what putting it leaves of the party, and what hearing does to one (document 01, "A step of
+-- party p").
 -- Assumes nothing.
 use Prim.Native.Nat.{ℕ}
 use mathlib.Core.Bool.{Bool, false, not, cond, _&&_, _||_}
@@ -28,7 +29,8 @@ requestParted Command q = q
 requestParted Data q = q
 requestParted Status q = reported q
 
--- The sender once it has put its byte. "put: to STRS, the byte stands, and leaves the held register if it came from there"
+-- The sender once it has put its byte. "put: to STRS, the byte stands, and leaves the held register if it came from
+-- there"
 abbrev pub parted : Kind → Party → Party
 parted k p = withSource Strs (withHeld (spent k (p .held)) (withRequest (requestParted k (p .request)) p))
 

@@ -1,4 +1,5 @@
--- Attention, settling, reset and interface clear, of one party (document 01, "Attention and settling", "The host's calls").
+-- Attention, settling, reset and interface clear, of one party (document 01, "Attention and settling", "The host's
+-- calls").
 -- Assumes nothing.
 use Prim.Native.Nat.{ℕ}
 use mathlib.Core.Bool.{Bool, true, false, cond}
@@ -21,7 +22,8 @@ acceptorAttended atn active listen = cond atn (cond active Aids Anrs) (cond list
 
 -- "all sources to SIDS". Document 02, Q-3: "every change of which party is active" clears the marks.
 abbrev pub attended : Bool → Party → Party
-attended atn p = withRole (withMark Unmarked (p .role)) (withSource Sids (withAcceptor (acceptorAttended atn (isActive p) (p .role .listen)) p))
+attended atn p = withRole (withMark Unmarked (p .role))
+    (withSource Sids (withAcceptor (acceptorAttended atn (isActive p) (p .role .listen)) p))
 
 -- "A non-source goes to SIDS ..; a source in SIDS to SGNS."
 abbrev pub sourceSettled : Bool → Source → Source
@@ -33,14 +35,17 @@ sourceSettled false s = Sids
 
 -- A party after it settles, with ATN as the call left it.
 abbrev pub settled : Bool → Party → Party
-settled atn p = withRequest (requestSettled (isPolled atn p) (p .request)) (withSource (sourceSettled (isSource atn p) (p .source)) p)
+settled atn p = withRequest (requestSettled (isPolled atn p) (p .request))
+    (withSource (sourceSettled (isSource atn p) (p .source)) p)
 
--- "Reset: flags off, control idle, held byte dropped, data-in emptied, poll register kept". Document 02, Q-3: it clears the marks too, "and so do reset,
--- interface clear"; Q-5: "Reset clears rsv2."
+-- "Reset: flags off, control idle, held byte dropped, data-in emptied, poll register kept". Document 02, Q-3: it clears
+-- the marks too, "and so do reset, interface clear"; Q-5: "Reset clears rsv2."
 abbrev pub wiped : Party → Party
-wiped p = withRole (unaddressed (p .role .name)) (withControl Idle (withHeld Empty (withInput Empty (withRequest (withRsv2 false (p .request)) p))))
+wiped p = withRole (unaddressed (p .role .name))
+    (withControl Idle (withHeld Empty (withInput Empty (withRequest (withRsv2 false (p .request)) p))))
 
--- "Interface clear: talk, listen and poll mode off everywhere, all control idle": a party that stops being active loses its held byte.
+-- "Interface clear: talk, listen and poll mode off everywhere, all control idle": a party that stops being active loses
+-- its held byte.
 abbrev pub cleared : Party → Party
 cleared p = withHeld (cond (isActive p) Empty (p .held)) (withRole (unaddressed (p .role .name)) (withControl Idle p))
 

@@ -1,6 +1,7 @@
 // A party with one part changed: the only functions that name all of its fields.
 ghost use mathlib.Core.Path.{_≡_};
-ghost use Rattle.party.specs.Parts.{withRole, withControl, withSource, withAcceptor, withHeld, withInput, withRequest};
+ghost use Rattle.party.specs.Parts.{withRole, withControl, withSource, withAcceptor, withHeld, withInput};
+ghost use Rattle.party.specs.Parts.{withRequest};
 use crate::Acceptor;
 use crate::Control;
 use crate::Party;

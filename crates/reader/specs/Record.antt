@@ -1,4 +1,5 @@
--- The records of a script. "A record is 6 bytes: mark 47 42 (hexadecimal), operation, party, value, extra." (document 01, "The bus script")
+-- The records of a script. "A record is 6 bytes: mark 47 42 (hexadecimal), operation, party, value, extra." (document
+-- 01, "The bus script")
 -- Assumes nothing.
 use Prim.Native.Nat.{ℕ, _+_, _-_, min}
 use mathlib.Core.List.{List}

@@ -1,5 +1,6 @@
-// The bus script: a reader that keeps the script and its place in it hands out records. A struct with a lent slice inside is not covered by the
-// proofs that come by themselves, so what is written over it is thin and proved by hand: start, read, take and record. The work is in record_at and after.
+// The bus script: a reader that keeps the script and its place in it hands out records. A struct with a lent slice
+// inside is not covered by the proofs that come by themselves, so what is written over it is thin and proved by hand:
+// start, read, take and record. The work is in record_at and after.
 ghost use mathlib.Core.Path.{_≡_};
 ghost use lib.ListN.{length, getD};
 ghost use Rattle.reader.specs.Record.{recordAt, afterAt};
@@ -79,7 +80,8 @@ pub fn take<'s, 'a>(r: &'s mut Reader<'a>) -> Next
     ensures { λ s.
         ⌜
         (s ≡ recordAt (now (now (r .entry) .script)) (now (r .entry) .at))
-        × ((now (r .exit) .script ≡ now (r .entry) .script) × (now (r .exit) .at ≡ afterAt (now (now (r .entry) .script)) (now (r .entry) .at)))
+        × ((now (r .exit) .script ≡ now (r .entry) .script)
+        × (now (r .exit) .at ≡ afterAt (now (now (r .entry) .script)) (now (r .entry) .at)))
         ⌝ }
 {
     let script = r.script;

@@ -1,7 +1,8 @@
 // Which refusal a call meets.
 ghost use mathlib.Core.Path.{_≡_};
 ghost use mathlib.Core.Bool.{cond};
-ghost use Rattle.refusals.specs.Refusals.{isInside, inStandby, listenRefusal, talkRefusal, standbyRefusal, own, judge};
+ghost use Rattle.refusals.specs.Refusals.{isInside, inStandby, listenRefusal, talkRefusal, standbyRefusal, own};
+ghost use Rattle.refusals.specs.Refusals.{judge};
 use effect::Act;
 use effect::Call;
 use effect::Refusal;

@@ -18,7 +18,9 @@ use Rattle.source_step.specs.SourceStep.{put, ready, ended, sourceIn}
 use Rattle.acceptor_step.specs.AcceptorStep.{takes as takes-up, acceptorIn}
 use Rattle.host_calls.specs.HostCalls.{readOut}
 use Rattle.accepted.specs.Accepted.{step, effectOf}
-use Rattle.bus.specs.Types.{Place, Party, Source, Sids, Sgns, Sdys, Strs, Acceptor, Aids, Anrs, Acrs, Acds, Awns, Slot, Empty, Full, Kind, Command, Data, Status, Event, Lines, Standing, Nothing, Byte, Call, After, Outcome, Effect, View}
+use Rattle.bus.specs.Types.{Place, Party, Source, Sids, Sgns, Sdys, Strs, Acceptor, Aids, Anrs, Acrs, Acds, Awns, Slot}
+use Rattle.bus.specs.Types.{Empty, Full, Kind, Command, Data, Status, Event, Lines, Standing, Nothing, Byte, Call}
+use Rattle.bus.specs.Types.{After, Outcome, Effect, View}
 use Rattle.bus.specs.Types.ev
 use Rattle.bus.specs.Types.after
 use Rattle.bus.specs.Types.call-of
@@ -45,7 +47,8 @@ asked (call-of.Of i (act-of.SecondRequest on)) x q = withRsv2 (isOn on) q
 asked call-of.Lines x q = q
 asked call-of.Drivers x q = q
 
--- What follows finds ATN as the call did where no attention follows, and control goes on from a party whose request is as it was.
+-- What follows finds ATN as the call did where no attention follows, and control goes on from a party whose request is
+-- as it was.
 abbrev pub Fair : After → Party → Party → Type 0
 Fair after.Settle p q = isActive q ≡ isActive p
 Fair (after.Pass j) p q = q .request ≡ p .request
@@ -68,7 +71,8 @@ module _ (l : Lines) (p : Party) where
 
   -- a step that puts none leaves the request and who is active
   pub data Turn (e : Effect) : Type 0 where
-    silent : isStat (e .said .event) ≡ false → e .party .request ≡ p .request → isActive (e .party) ≡ isActive p → Turn e
+    silent : isStat (e .said .event) ≡ false → e .party .request ≡ p .request → isActive (e .party) ≡ isActive p
+        → Turn e
     reports : isStat (e .said .event) ≡ true → Reports e → Turn e
 
   -- what each call leaves
@@ -94,45 +98,57 @@ module _ (v : View) where
   abbrev Turned : Effect → Type 0
   Turned = Turn (v .lines) (v .party)
 
-  put-turn : (k : Kind) (x : ℕ) (e : Bool) → let p = v .party in let y = isPolled (v .lines .atn) p in kindOf (isActive p) y ≡ k → offer y p ≡ Full x e → Turned (put k x e v)
+  put-turn : (k : Kind) (x : ℕ) (e : Bool) → let p = v .party in let y = isPolled (v .lines .atn) p in kindOf (isActive
+      p) y ≡ k → offer y p ≡ Full x e → Turned (put k x e v)
   put-turn Command x e ek eo = silent refl refl refl
   put-turn Data x e ek eo = silent refl refl refl
-  put-turn Status x e ek eo = let p = v .party in let y = isPolled (v .lines .atn) p in let h = of-polled (isActive p) y ek in
+  put-turn Status x e ek eo = let p = v .party in let y = isPolled (v .lines .atn) p in
+      let h = of-polled (isActive p) y ek in
       reports refl (record { polled = h; byte = of-status p y x e h eo; follows = refl; party = refl })
 
-  ready-turn : (o : Slot) → let p = v .party in let y = isPolled (v .lines .atn) p in offer y p ≡ o → Turned (ready o (kindOf (isActive p) y) v)
+  ready-turn : (o : Slot) → let p = v .party in let y = isPolled (v .lines .atn) p in offer y p ≡ o
+      → Turned (ready o (kindOf (isActive p) y) v)
   ready-turn Empty eo = silent refl refl refl
   ready-turn (Full x e) eo = cond-elim Turned (v .lines .nrfd) (λ _. silent refl refl refl)
-      (λ _. cond-elim Turned (v .lines .ndac) (λ _. put-turn (kindOf (isActive (v .party)) (isPolled (v .lines .atn) (v .party))) x e refl eo) (λ _. silent refl refl refl))
+      (λ _. cond-elim Turned (v .lines .ndac)
+      (λ _. put-turn (kindOf (isActive (v .party)) (isPolled (v .lines .atn) (v .party))) x e refl eo)
+      (λ _. silent refl refl refl))
 
   ended-turn : (st : Standing) → Turned (ended st v)
   ended-turn Nothing = silent refl refl refl
   ended-turn (Byte s k x e) = let p = v .party in
-      silent refl (cond-elim (λ (q : Party). q .request ≡ p .request) (ofCommand k) (λ _. refl) (λ _. refl)) (cond-elim (λ (q : Party). isActive q ≡ isActive p) (ofCommand k) (λ _. refl) (λ _. refl))
+      silent refl (cond-elim (λ (q : Party). q .request ≡ p .request) (ofCommand k) (λ _. refl) (λ _. refl))
+      (cond-elim (λ (q : Party). isActive q ≡ isActive p) (ofCommand k) (λ _. refl) (λ _. refl))
 
-  source-turn : (s : Source) → let p = v .party in let y = isPolled (v .lines .atn) p in Turned (sourceIn s (offer y p) (kindOf (isActive p) y) v)
+  source-turn : (s : Source) → let p = v .party in let y = isPolled (v .lines .atn) p in Turned (sourceIn s (offer y p)
+      (kindOf (isActive p) y) v)
   source-turn Sids = silent refl refl refl
-  source-turn Sgns = cond-elim Turned (isFull (offer (isPolled (v .lines .atn) (v .party)) (v .party))) (λ _. silent refl refl refl) (λ _. silent refl refl refl)
+  source-turn Sgns = cond-elim Turned (isFull (offer (isPolled (v .lines .atn) (v .party)) (v .party)))
+      (λ _. silent refl refl refl) (λ _. silent refl refl refl)
   source-turn Sdys = ready-turn (offer (isPolled (v .lines .atn) (v .party)) (v .party)) refl
   source-turn Strs = cond-elim Turned (v .lines .ndac) (λ _. silent refl refl refl) (λ _. ended-turn (v .standing))
 
   takes-turn : (st : Standing) → Turned (takes-up st v)
   takes-turn Nothing = silent refl refl refl
   takes-turn (Byte s k x e) = cond-elim Turned (v .lines .atn)
-      (λ _. silent (hear-events (λ (y : Event). isStat y ≡ false) refl refl refl (meaningOf x) (v .party .role .listen)) refl refl)
+      (λ _. silent (hear-events (λ (y : Event). isStat y ≡ false) refl refl refl (meaningOf x) (v .party .role .listen))
+      refl refl)
       (λ _. silent refl refl refl)
 
   acceptor-turn : (a : Acceptor) → Turned (acceptorIn a v)
   acceptor-turn Aids = silent refl refl refl
-  acceptor-turn Anrs = cond-elim Turned (v .lines .atn || not (isFull (v .party .input))) (λ _. silent refl refl refl) (λ _. silent refl refl refl)
+  acceptor-turn Anrs = cond-elim Turned (v .lines .atn || not (isFull (v .party .input))) (λ _. silent refl refl refl)
+      (λ _. silent refl refl refl)
   acceptor-turn Acrs = cond-elim Turned (v .lines .dav) (λ _. takes-turn (v .standing)) (λ _. silent refl refl refl)
   acceptor-turn Acds = silent refl refl refl
   acceptor-turn Awns = cond-elim Turned (v .lines .dav) (λ _. silent refl refl refl) (λ _. silent refl refl refl)
 
   pub step-turn : Turned (step v)
-  step-turn = let p = v .party in cond-elim Turned (isSource (v .lines .atn) p) (λ _. source-turn (p .source)) (λ _. acceptor-turn (p .acceptor))
+  step-turn = let p = v .party in cond-elim Turned (isSource (v .lines .atn) p) (λ _. source-turn (p .source)) (λ _.
+      acceptor-turn (p .acceptor))
 
-  read-leaves : (i : Place) (s : Slot) → Leaves (v .lines) (v .party) (call-of.Of i act-of.Read) (withStanding (v .standing) (readOut s (v .party)))
+  read-leaves : (i : Place) (s : Slot) → Leaves (v .lines) (v .party) (call-of.Of i act-of.Read) (withStanding
+      (v .standing) (readOut s (v .party)))
   read-leaves i Empty = record { request = refl; follows = refl }
   read-leaves i (Full x e) = record { request = refl; follows = refl }
 
@@ -146,7 +162,10 @@ module _ (v : View) where
   leaves (call-of.Of i act-of.TakeControl) = record { request = refl; follows = refl }
   leaves (call-of.Of i act-of.GoToStandby) = record { request = refl; follows = refl }
   leaves (call-of.Of i act-of.InterfaceClear) = record { request = refl; follows = refl }
-  leaves (call-of.Of i act-of.Reset) = cond-elim (λ (o : Outcome). Leaves (v .lines) (v .party) (call-of.Of i act-of.Reset) (withStanding (v .standing) o)) (isActive (v .party)) (λ _. record { request = refl; follows = refl }) (λ h. record { request = refl; follows = sym h })
+  leaves (call-of.Of i act-of.Reset) = cond-elim
+      (λ (o : Outcome). Leaves (v .lines) (v .party) (call-of.Of i act-of.Reset) (withStanding (v .standing) o))
+      (isActive (v .party)) (λ _. record { request = refl; follows = refl })
+      (λ h. record { request = refl; follows = sym h })
   leaves (call-of.Of i act-of.Drop) = record { request = refl; follows = refl }
   leaves (call-of.Of i (act-of.SecondRequest on)) = record { request = refl; follows = refl }
   leaves call-of.Lines = record { request = refl; follows = refl }

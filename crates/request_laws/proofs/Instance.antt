@@ -31,7 +31,8 @@ holds a zero f h j l m = absurd (none l m)
     none l m = omega arith
 holds a (suc n) f h j l m = go (λ k. holds (suc a) n f k j) (f a) refl h (eqb j a) refl
   where
-    go : (looked (suc a) n f ≡ true → suc a ≤ j → j < suc a + n → f j ≡ true) → (x : Bool) → f a ≡ x → (x && looked (suc a) n f) ≡ true → (y : Bool) → eqb j a ≡ y → f j ≡ true
+    go : (looked (suc a) n f ≡ true → suc a ≤ j → j < suc a + n → f j ≡ true) → (x : Bool) → f a ≡ x
+        → (x && looked (suc a) n f) ≡ true → (y : Bool) → eqb j a ≡ y → f j ≡ true
     go R true e k true g = rw (eqb-true j a g) e
     go R true e k false g = let ne : (j ≡ a → ⊥) = eqb-false j a g in R k (omega arith) (omega arith)
     go R false e k y g = no (cc)
@@ -61,16 +62,21 @@ poll = record {
 
 none : NoneBetween bus calls 1 1 19
 unfolding meaningOf sevenBits named
-none j l m t = of-false (isStat (answerAt bus calls j .event)) (holds 2 17 (λ j. not (isStat (answerAt bus calls j .event))) refl j l m) (ap isStat (t .2))
+none j l m t = of-false (isStat (answerAt bus calls j .event))
+    (holds 2 17 (λ j. not (isStat (answerAt bus calls j .event))) refl j l m) (ap isStat (t .2))
 
 left : Left bus calls 1 1 49
 unfolding meaningOf sevenBits named
 left = record {
-  untouched = λ k l m t. of-false (touches (moment bus calls k .call)) (holds 2 47 (λ j. not (touches (moment bus calls j .call))) refl k l m) (touched k (t .1));
-  clear = λ k l m. clear-bit (rsv (requestAt bus calls 1 k .live)) (holds 2 48 (λ j. not (rsv (requestAt bus calls 1 j .live))) refl k l (omega arith));
+  untouched = λ k l m t. of-false (touches (moment bus calls k .call))
+      (holds 2 47 (λ j. not (touches (moment bus calls j .call))) refl k l m) (touched k (t .1));
+  clear = λ k l m. clear-bit (rsv (requestAt bus calls 1 k .live))
+      (holds 2 48 (λ j. not (rsv (requestAt bus calls 1 j .live))) refl k l (omega arith));
 }
   where
-    touched : (k : ℕ) → ((on : ℕ) × (moment bus calls k .call ≡ call-of.Of (record { 0 = 1 }) (act-of.SecondRequest on))) ⊎ (moment bus calls k .call ≡ call-of.Of (record { 0 = 1 }) act-of.Reset) → touches (moment bus calls k .call) ≡ true
+    touched : (k : ℕ) → ((on : ℕ) × (moment bus calls k .call ≡ call-of.Of (record { 0 = 1 })
+        (act-of.SecondRequest on))) ⊎ (moment bus calls k .call ≡ call-of.Of (record { 0 = 1 }) act-of.Reset)
+        → touches (moment bus calls k .call) ≡ true
     touched k (inl e) = ap touches (e .1)
     touched k (inr e) = ap touches e
 
@@ -81,8 +87,22 @@ left = record {
 pub speaks : Speaks
 unfolding meaningOf sevenBits named
 speaks = record {
-  first = record { asks = asks; poll = poll; after = omega arith; none = none; puts = (omega arith, refl, refl); within = (omega arith, omega arith) };
-  second = record { asks = asks; poll = poll; after = omega arith; none = none; puts = (omega arith, refl, refl); within = (omega arith, omega arith) };
+  first = record {
+    asks = asks;
+    poll = poll;
+    after = omega arith;
+    none = none;
+    puts = (omega arith, refl, refl);
+    within = (omega arith, omega arith);
+  };
+  second = record {
+    asks = asks;
+    poll = poll;
+    after = omega arith;
+    none = none;
+    puts = (omega arith, refl, refl);
+    within = (omega arith, omega arith);
+  };
   later = (omega arith, refl, refl);
   last = (omega arith, refl, refl);
   left = left;

@@ -12,7 +12,8 @@ use Rattle.bus.specs.Types.ruling
 use Rattle.bus.specs.Types.ev
 use Rattle.bus.specs.Types.call-of
 use Rattle.bus.specs.Types.act-of
-use Rattle.bus.specs.Rows.{Report, Run, outcome, expected, ok, moved, says, refused, step, read, listenOnly, clear, standby, run, sends}
+use Rattle.bus.specs.Rows.{Report, Run, outcome, expected, ok, moved, says, refused, step, read, listenOnly, clear}
+use Rattle.bus.specs.Rows.{standby, run, sends}
 use Rattle.request_laws.specs.Requests.{StatAt, Left, First}
 
 abbrev request : ℕ → Call
@@ -47,7 +48,8 @@ reports v rest =
     ∷ (step 0, moved)
     ∷ rest
 
--- The user's condition: rsv2 on, SRQ on the line, polled: 41 with register 01, then a second poll sends 01. Every status byte of the first poll has the bit.
+-- The user's condition: rsv2 on, SRQ on the line, polled: 41 with register 01, then a second poll sends 01. Every
+-- status byte of the first poll has the bit.
 abbrev pub R1 : List Run
 R1 =
     rack ((request 1, ok) ∷ lines 4 ∷ polls (reports 0x41 (again 0xb0 (reports 0x01 []))))
@@ -58,11 +60,13 @@ R1 =
 abbrev pub R2 : List Run
 R2 = rack ((request 1, ok) ∷ polls (again 0xb0 (reports 0x41 (again 0xb0 (reports 0x01 []))))) ∷ []
 
--- Switched on in a poll that began in NPRS: no byte of that poll has the bit, and putting them clears nothing. SRQ comes after it, and the next poll has the bit.
+-- Switched on in a poll that began in NPRS: no byte of that poll has the bit, and putting them clears nothing. SRQ
+-- comes after it, and the next poll has the bit.
 abbrev pub R3 : List Run
 R3 = rack (polls ((request 1, ok) ∷ reports 0x01 (again 0xb4 (reports 0x41 (again 0xb0 (reports 0x01 [])))))) ∷ []
 
--- "Reset clears rsv2", and so does switching it off. An interface clear leaves it: in `polls` there is one, and SRQ is on after it.
+-- "Reset clears rsv2", and so does switching it off. An interface clear leaves it: in `polls` there is one, and SRQ is
+-- on after it.
 abbrev pub R4 : List Run
 R4 =
     rack ((request 1, ok) ∷ lines 4 ∷ (call-of.Of (place 1) act-of.Reset, ok) ∷ lines 0 ∷ polls (reports 0x01 []))
@@ -72,11 +76,14 @@ R4 =
 
 -- "bit 64 of live, or rsv2": either asks, and a register that has the bit asks on.
 abbrev pub R5 : List Run
-R5 = rack ((call-of.Of (place 1) (act-of.PollRegister 0x41), ok) ∷ (request 1, ok) ∷ lines 4 ∷ polls (reports 0x41 (again 0xb0 (reports 0x41 [])))) ∷ []
+R5 = rack ((call-of.Of (place 1) (act-of.PollRegister 0x41), ok) ∷ (request 1, ok) ∷ lines 4 ∷ polls
+    (reports 0x41 (again 0xb0 (reports 0x41 [])))) ∷ []
 
 -- "switches it with 0 or 1": another value is refused, after a party that is not there.
 abbrev pub R6 : List Run
-R6 = rack ((request 2, refused ruling.BadValue) ∷ lines 0 ∷ (call-of.Of (place 2) (act-of.SecondRequest 2), refused ruling.NoParty) ∷ (call-of.Of (place 2) (act-of.SecondRequest 1), refused ruling.NoParty) ∷ lines 0 ∷ []) ∷ []
+R6 = rack ((request 2, refused ruling.BadValue) ∷ lines 0 ∷
+    (call-of.Of (place 2) (act-of.SecondRequest 2), refused ruling.NoParty) ∷
+    (call-of.Of (place 2) (act-of.SecondRequest 1), refused ruling.NoParty) ∷ lines 0 ∷ []) ∷ []
 
 abbrev pub rows : List (List Run)
 rows = R1 ∷ R2 ∷ R3 ∷ R4 ∷ R5 ∷ R6 ∷ []
@@ -85,13 +92,14 @@ rows = R1 ∷ R2 ∷ R3 ∷ R4 ∷ R5 ∷ R6 ∷ []
 abbrev pub Examples : Type 0
 Examples = map (map outcome) rows ≡ map (map expected) rows
 
--- The condition speaks of such lists: its premises hold of the second run of R1. Call 1 is the request, the first poll is calls 19 to 36, its status bytes are calls 22 and 30, and
--- those of a later poll calls 41 and 49.
+-- The condition speaks of such lists: its premises hold of the second run of R1. Call 1 is the request, the first poll
+-- is calls 19 to 36, its status bytes are calls 22 and 30, and those of a later poll calls 41 and 49.
 abbrev pub bus : Bus
 bus = build (4 ∷ 5 ∷ []) (place 0) .bus
 
 abbrev pub calls : List Call
-calls = map (λ c. c .0) (rack ((request 1, ok) ∷ polls (reports 0x41 (reports 0x41 (again 0xb0 (reports 0x01 (reports 0x01 [])))))) .calls)
+calls = map (λ c. c .0) (rack
+    ((request 1, ok) ∷ polls (reports 0x41 (reports 0x41 (again 0xb0 (reports 0x01 (reports 0x01 [])))))) .calls)
 
 pub record Speaks : Type 0 where
   pub first : First bus calls 1 1 19 36 22

@@ -1,6 +1,6 @@
 -- The user's condition on the second request bit (document 02, Q-5), one statement over whole lists of calls.
--- Calls of a list are counted from 0, as in demand 3. `r` is the call that switches the request on, `k` and `l` are calls that come later, `s` and `e` the first and the last
--- call of a poll, `p` is the party.
+-- Calls of a list are counted from 0, as in demand 3. `r` is the call that switches the request on, `k` and `l` are
+-- calls that come later, `s` and `e` the first and the last call of a poll, `p` is the party.
 -- Assumes nothing.
 use mathlib.Core.Path.{_≡_}
 use mathlib.Core.Bool.{Bool, true, false}
@@ -38,7 +38,8 @@ module _ (b : Bus) (cs : List Call) (p : ℕ) where
   abbrev pub polled : ℕ → Bool
   polled k = polledOn (busAt b cs k) p
 
-  -- "A poll here is an unbroken time in which that party is polled": it is polled when each of the calls s to e comes, and neither before s nor after e.
+  -- "A poll here is an unbroken time in which that party is polled": it is polled when each of the calls s to e comes,
+  -- and neither before s nor after e.
   pub record Poll (s e : ℕ) : Type 0 where
     pub order : (s ≤ e) × (e < length cs)
     pub unbroken : (j : ℕ) → s ≤ j → j ≤ e → polled j ≡ true
@@ -47,7 +48,8 @@ module _ (b : Bus) (cs : List Call) (p : ℕ) where
 
   -- "status bytes the events stat": by call k party p puts one.
   abbrev pub StatAt : ℕ → Type 0
-  StatAt k = (k < length cs) × (moment b cs k .call ≡ call-of.Of (place p) act-of.Step) × (answerAt b cs k .event ≡ ev.Stat)
+  StatAt k = (k < length cs) × (moment b cs k .call ≡ call-of.Of (place p) act-of.Step)
+      × (answerAt b cs k .event ≡ ev.Stat)
 
   -- "sets the bit": bit 64 of what call k put up.
   abbrev pub bit64 : ℕ → Bool
@@ -63,10 +65,12 @@ module _ (b : Bus) (cs : List Call) (p : ℕ) where
 
   -- Call k switches the bit of party p, on or off, or resets it.
   abbrev pub TouchesAt : ℕ → Type 0
-  TouchesAt k = (answerAt b cs k .refusal ≡ ruling.Accepted) × (((on : ℕ) × (moment b cs k .call ≡ call-of.Of (place p) (act-of.SecondRequest on))) ⊎ (moment b cs k .call ≡ call-of.Of (place p) act-of.Reset))
+  TouchesAt k = (answerAt b cs k .refusal ≡ ruling.Accepted)
+      × (((on : ℕ) × (moment b cs k .call ≡ call-of.Of (place p) (act-of.SecondRequest on)))
+      ⊎ (moment b cs k .call ≡ call-of.Of (place p) act-of.Reset))
 
-  -- "then neither switched nor reset", "with bit 64 of live and saved clear throughout": from call r until call l comes. That live has it clear is enough: what saved has
-  -- shows in live as soon as the party is not polled.
+  -- "then neither switched nor reset", "with bit 64 of live and saved clear throughout": from call r until call l
+  -- comes. That live has it clear is enough: what saved has shows in live as soon as the party is not polled.
   pub record Left (r l : ℕ) : Type 0 where
     pub untouched : (k : ℕ) → r < k → k < l → TouchesAt k → ⊥
     pub clear : (k : ℕ) → r < k → k ≤ l → rsv (requestAt k .live) ≡ false
@@ -84,7 +88,8 @@ module _ (b : Bus) (cs : List Call) (p : ℕ) where
     pub puts : StatAt k
     pub within : (s ≤ k) × (k ≤ e)
 
-  -- What a request is that no status byte has answered: the bit is on, the service SRQS until a poll begins, and APRS from then on.
+  -- What a request is that no status byte has answered: the bit is on, the service SRQS until a poll begins, and APRS
+  -- from then on.
   pub record Waits (r k : ℕ) : Type 0 where
     pub on : requestAt k .rsv2 ≡ true
     pub srqs : ((j : ℕ) → r < j → j ≤ k → polled j ≡ false) → requestAt k .service ≡ Srqs
@@ -99,15 +104,19 @@ module _ (b : Bus) (cs : List Call) (p : ℕ) where
     -- A poll that puts none takes nothing from the request, which waits for the next. It takes the party off SRQ.
     pub waits : (r k : ℕ) → AsksAt r → r < k → k < length cs → NoneBetween r k → Left r k → Waits r k
     -- A status byte put in NPRS clears nothing: a request that was switched on during that poll outlasts it.
-    pub spares : (k : ℕ) → StatAt k → suc k < length cs → requestAt k .service ≡ Nprs → requestAt (suc k) .rsv2 ≡ requestAt k .rsv2
+    pub spares : (k : ℕ) → StatAt k → suc k < length cs → requestAt k .service ≡ Nprs
+        → requestAt (suc k) .rsv2 ≡ requestAt k .rsv2
     -- Every status byte is put in a poll, so that the first and the later ones are all there are.
     pub polls : (l : ℕ) → StatAt l → (s : ℕ) × (e : ℕ) × (Poll s e × (s ≤ l) × (l ≤ e))
 
 -- The user's condition: for every list of calls from a bus that an accepted build gave, and every party.
 abbrev pub RequestsAnswered : Type 0
-RequestsAnswered = (names : List Name) (system : Place) → buildExtended names system .refusal ≡ ruling.Accepted → (cs : List Call) (p : ℕ) → Answered (buildExtended names system .bus) cs p
+RequestsAnswered = (names : List Name) (system : Place) → buildExtended names system .refusal ≡ ruling.Accepted
+    → (cs : List Call) (p : ℕ) → Answered (buildExtended names system .bus) cs p
 
 -- The same for every list of calls and runs: "In a list of demand 3 a run stands for its steps" (document 02, Q-1).
 abbrev pub RequestsAnsweredWithRuns : Type 0
-RequestsAnsweredWithRuns = (tie : Bus → TieOrder) (names : List Name) (system : Place) → buildExtended names system .refusal ≡ ruling.Accepted
-    → (xs : List Act) (p : ℕ) → Answered (buildExtended names system .bus) (expanded tie (buildExtended names system .bus) xs) p
+RequestsAnsweredWithRuns = (tie : Bus → TieOrder) (names : List Name) (system : Place)
+    → buildExtended names system .refusal ≡ ruling.Accepted
+    → (xs : List Act) (p : ℕ) → Answered (buildExtended names system .bus) (expanded tie
+    (buildExtended names system .bus) xs) p

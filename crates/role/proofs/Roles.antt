@@ -42,7 +42,8 @@ live r = r .talk || marked r
 pub record Addressed (atn : Bool) (w : ℕ → Role) : Type 0 where
   -- at most one party talks: with ATN false it is the only source
   pub one : (i j : ℕ) → w i .talk ≡ true → w j .talk ≡ true → i ≡ j
-  -- where some party waits for its talk secondary, who talks waits for one too: a secondary moves talk, and makes no second talker
+  -- where some party waits for its talk secondary, who talks waits for one too: a secondary moves talk, and makes no
+  -- second talker
   pub led : (i j : ℕ) → marked (w i) ≡ true → w j .talk ≡ true → marked (w j) ≡ true
   -- who waits for a talk secondary has the primary last sent, so that a secondary names one of them
   pub near : (i j : ℕ) → marked (w i) ≡ true → marked (w j) ≡ true → primaryOf (nameOf (w i)) ≡ primaryOf (nameOf (w j))
@@ -57,7 +58,12 @@ pub record Weak (r q : Role) : Type 0 where
   pub spot : marked q ≡ true → primaryOf (nameOf q) ≡ primaryOf (nameOf r)
 
 pub weak-same : (r q : Role) → q ≡ r → Weak r q
-weak-same r q e = record { talk = λ h. rw e at h; marks = λ h. rw e at h; keeps = λ _ h. rw e h; spot = λ _. ap (λ (x : Role). primaryOf (nameOf x)) e }
+weak-same r q e = record {
+  talk = λ h. rw e at h;
+  marks = λ h. rw e at h;
+  keeps = λ _ h. rw e h;
+  spot = λ _. ap (λ (x : Role). primaryOf (nameOf x)) e;
+}
 
 pub weak-unaddressed : (r : Role) (n : Name) → Weak r (unaddressed n)
 weak-unaddressed r n = record { talk = λ h. no (cc); marks = λ h. no (cc); keeps = λ h. no (cc); spot = λ h. no (cc) }
@@ -78,8 +84,14 @@ weaken w u h A = record {
 }
 
 -- where no mark is set, one talker at the most is all
-pub unmarked : {atn : Bool} (w : ℕ → Role) → ((i j : ℕ) → w i .talk ≡ true → w j .talk ≡ true → i ≡ j) → ((j : ℕ) → marked (w j) ≡ false) → Addressed atn w
-unmarked w u h = record { one = u; led = λ i j e f. let z = h i in no (cc); near = λ i j e f. let z = h i in no (cc); off = λ t. h }
+pub unmarked : {atn : Bool} (w : ℕ → Role) → ((i j : ℕ) → w i .talk ≡ true → w j .talk ≡ true → i ≡ j)
+    → ((j : ℕ) → marked (w j) ≡ false) → Addressed atn w
+unmarked w u h = record {
+  one = u;
+  led = λ i j e f. let z = h i in no (cc);
+  near = λ i j e f. let z = h i in no (cc);
+  off = λ t. h;
+}
 
 -- talk and listen are not both on
 abbrev pub Single : Role → Type 0
@@ -97,7 +109,8 @@ hear-single Tct r h = h
 hear-single Dcl r h = h
 hear-single Spe r h = h
 hear-single Spd r h = h
-hear-single (Second s) r h = second-elim Single (r .mark) (ownsSecondary s r) r (λ e f. no (cc)) (λ e. no (cc)) (λ e. no (cc)) h
+hear-single (Second s) r h = second-elim Single (r .mark) (ownsSecondary s r) r (λ e f. no (cc)) (λ e. no (cc))
+    (λ e. no (cc)) h
 hear-single Neither r h = h
 
 pub hear-name : (m : Meaning) (r : Role) → nameOf (roleHeard m r) ≡ nameOf r
@@ -112,7 +125,8 @@ hear-name Tct r = refl
 hear-name Dcl r = refl
 hear-name Spe r = refl
 hear-name Spd r = refl
-hear-name (Second s) r = second-elim (λ (x : Role). nameOf x ≡ nameOf r) (r .mark) (ownsSecondary s r) r refl refl refl refl
+hear-name (Second s) r = second-elim (λ (x : Role). nameOf x ≡ nameOf r) (r .mark) (ownsSecondary s r) r refl refl refl
+    refl
 hear-name Neither r = refl
 
 -- talk or listen changed by the host before what stands is heard
@@ -131,7 +145,8 @@ same-mark Spd t l r = refl
 same-mark (Second s) t l r = refl
 same-mark Neither t l r = refl
 
-no-more-talk : (m : Meaning) (t l : Bool) (r : Role) → (t ≡ true → r .talk ≡ true) → roleHeard m (withFlags t l r) .talk ≡ true → roleHeard m r .talk ≡ true
+no-more-talk : (m : Meaning) (t l : Bool) (r : Role) → (t ≡ true → r .talk ≡ true)
+    → roleHeard m (withFlags t l r) .talk ≡ true → roleHeard m r .talk ≡ true
 no-more-talk Other t l r h = h
 no-more-talk (Listen a) t l r h = listen-weak (nameOf r .secondary) (owns a r) t l r h
 no-more-talk Unlisten t l r h = h
@@ -146,8 +161,10 @@ no-more-talk Spd t l r h = h
 no-more-talk (Second s) t l r h = second-weak (r .mark) (ownsSecondary s r) t l r h
 no-more-talk Neither t l r h = h
 
-pub hear-weak : (m : Meaning) (t l : Bool) (r : Role) → (t ≡ true → r .talk ≡ true) → Weak (roleHeard m r) (roleHeard m (withFlags t l r))
-hear-weak m t l r h = weakly (no-more-talk m t l r h) (ap talkPrimary (same-mark m t l r)) (hear-name m (withFlags t l r) ∙ sym (hear-name m r))
+pub hear-weak : (m : Meaning) (t l : Bool) (r : Role) → (t ≡ true → r .talk ≡ true)
+    → Weak (roleHeard m r) (roleHeard m (withFlags t l r))
+hear-weak m t l r h = weakly (no-more-talk m t l r h) (ap talkPrimary (same-mark m t l r))
+    (hear-name m (withFlags t l r) ∙ sym (hear-name m r))
 
 -- the command that passes control leaves every talk as it is
 pub hear-passes : (m : Meaning) (r : Role) → passesControl m ≡ true → roleHeard m r .talk ≡ r .talk
@@ -166,7 +183,8 @@ hear-passes (Second s) r h = no (cc)
 hear-passes Neither r h = no (cc)
 
 -- what holds of heard, clear and trigger holds of the event of hearing
-pub hear-events : (P : Event → Type 0) → P ev.Heard → P ev.Clear → P ev.Trigger → (m : Meaning) (listen : Bool) → P (hearEvent m listen)
+pub hear-events : (P : Event → Type 0) → P ev.Heard → P ev.Clear → P ev.Trigger → (m : Meaning) (listen : Bool)
+    → P (hearEvent m listen)
 hear-events P h c t Other l = h
 hear-events P h c t (Listen a) l = h
 hear-events P h c t Unlisten l = h
@@ -197,11 +215,13 @@ module _ (atn : Bool) (on : atn ≡ true) (n : ℕ) (w u : ℕ → Role) (D : Ap
     named : (j : ℕ) → marked (u j) ≡ true → nameOf (u j) ≡ nameOf (w j)
     named j e = ap nameOf (by-mark j e .1) ∙ hear-name m (w j)
 
-    close : (i j : ℕ) → marked (u i) ≡ true → marked (u j) ≡ true → primaryOf (nameOf (w i)) ≡ primaryOf (nameOf (w j)) → primaryOf (nameOf (u i)) ≡ primaryOf (nameOf (u j))
+    close : (i j : ℕ) → marked (u i) ≡ true → marked (u j) ≡ true → primaryOf (nameOf (w i)) ≡ primaryOf (nameOf (w j))
+        → primaryOf (nameOf (u i)) ≡ primaryOf (nameOf (u j))
     close i j e f p = ap primaryOf (named i e) ∙ p ∙ sym (ap primaryOf (named j f))
 
     -- a command that turns nobody's talk on, and clears every mark
-    tame : ((r : Role) → roleHeard m r .talk ≡ true → r .talk ≡ true) → ((r : Role) → talkPrimary (markAfter m r) ≡ false) → Addressed atn u
+    tame : ((r : Role) → roleHeard m r .talk ≡ true → r .talk ≡ true)
+        → ((r : Role) → talkPrimary (markAfter m r) ≡ false) → Addressed atn u
     tame f g = record {
       one = λ i j e h. A .one i j (f (w i) (by-talk i e .2)) (f (w j) (by-talk j h .2));
       led = λ i j e h. let z = by-mark i e .2 in let y = g (w i) in no (cc);
@@ -211,7 +231,8 @@ module _ (atn : Bool) (on : atn ≡ true) (n : ℕ) (w u : ℕ → Role) (D : Ap
 
   -- A talk address: the parties of that primary, of whom a plain one talks, and those with a secondary wait.
   module _ (a : Address) (H : Heard (Talk a)) where
-    talks : (i : ℕ) → u i .talk ≡ true → (owns a (w i) ≡ true) × (isExtended (nameOf (w i) .secondary) ≡ true → w i .talk ≡ true)
+    talks : (i : ℕ) → u i .talk ≡ true → (owns a (w i) ≡ true) × (isExtended (nameOf (w i) .secondary) ≡ true → w i
+        .talk ≡ true)
     talks i e = talk-talk (nameOf (w i) .secondary) (owns a (w i)) (w i) (by-talk (Talk a) H i e .2)
 
     waits : (i : ℕ) → marked (u i) ≡ true → owns a (w i) ≡ true
@@ -229,19 +250,26 @@ module _ (atn : Bool) (on : atn ≡ true) (n : ℕ) (w u : ℕ → Role) (D : Ap
 
     talked : Addressed atn u
     talked = record {
-      one = λ i j e f. one i j e f (apart i j (by-talk (Talk a) H i e .0) (by-talk (Talk a) H j f .0) (talks i e .0) (talks j f .0));
-      led = λ i j e f. led i j e f (apart i j (by-mark (Talk a) H i e .0) (by-talk (Talk a) H j f .0) (waits i e) (talks j f .0));
+      one = λ i j e f. one i j e f (apart i j (by-talk (Talk a) H i e .0) (by-talk (Talk a) H j f .0) (talks i e .0)
+          (talks j f .0));
+      led = λ i j e f. led i j e f (apart i j (by-mark (Talk a) H i e .0) (by-talk (Talk a) H j f .0) (waits i e)
+          (talks j f .0));
       near = λ i j e f. close (Talk a) H i j e f (same i j (waits i e) (waits j f));
       off = λ t. no (cc);
     }
       where
-        one : (i j : ℕ) → u i .talk ≡ true → u j .talk ≡ true → (i ≡ j) ⊎ ((isExtended (nameOf (w i) .secondary) ≡ true) × (isExtended (nameOf (w j) .secondary) ≡ true)) → i ≡ j
+        one : (i j : ℕ) → u i .talk ≡ true → u j .talk ≡ true
+            → (i ≡ j) ⊎ ((isExtended (nameOf (w i) .secondary) ≡ true) × (isExtended (nameOf (w j) .secondary) ≡ true))
+            → i ≡ j
         one i j e f (inl z) = z
         one i j e f (inr z) = A .one i j (talks i e .1 (z .0)) (talks j f .1 (z .1))
 
-        led : (i j : ℕ) → marked (u i) ≡ true → u j .talk ≡ true → (i ≡ j) ⊎ ((isExtended (nameOf (w i) .secondary) ≡ true) × (isExtended (nameOf (w j) .secondary) ≡ true)) → marked (u j) ≡ true
+        led : (i j : ℕ) → marked (u i) ≡ true → u j .talk ≡ true
+            → (i ≡ j) ⊎ ((isExtended (nameOf (w i) .secondary) ≡ true) × (isExtended (nameOf (w j) .secondary) ≡ true))
+            → marked (u j) ≡ true
         led i j e f (inl z) = rw z at e
-        led i j e f (inr z) = rw (by-talk (Talk a) H j f .1) (talk-sets (nameOf (w j) .secondary) (owns a (w j)) (talks j f .0) (z .1))
+        led i j e f (inr z) = rw (by-talk (Talk a) H j f .1)
+            (talk-sets (nameOf (w j) .secondary) (owns a (w j)) (talks j f .0) (z .1))
 
   -- A secondary: of those who wait it names one, and whoever else waits stops talking.
   module _ (s : SecondaryAddress) (H : Heard (Second s)) where
@@ -254,8 +282,10 @@ module _ (atn : Bool) (on : atn ≡ true) (n : ℕ) (w u : ℕ → Role) (D : Ap
     seconds : Addressed atn u
     seconds = record {
       one = λ i j e f. one i j (by-talk (Second s) H i e .0) (by-talk (Second s) H j f .0) (kept i e) (kept j f);
-      led = λ i j e f. rw (by-talk (Second s) H j f .1) (led (w j) (kept j f) (A .led i j (by-mark (Second s) H i e .2)));
-      near = λ i j e f. close (Second s) H i j e f (A .near i j (by-mark (Second s) H i e .2) (by-mark (Second s) H j f .2));
+      led = λ i j e f. rw (by-talk (Second s) H j f .1)
+          (led (w j) (kept j f) (A .led i j (by-mark (Second s) H i e .2)));
+      near = λ i j e f. close (Second s) H i j e f
+          (A .near i j (by-mark (Second s) H i e .2) (by-mark (Second s) H j f .2));
       off = λ t. no (cc);
     }
       where
@@ -264,7 +294,9 @@ module _ (atn : Bool) (on : atn ≡ true) (n : ℕ) (w u : ℕ → Role) (D : Ap
         led r (inr x) h = h (x .1)
 
         one : (i j : ℕ) → i < n → j < n → Kept (w i) → Kept (w j) → i ≡ j
-        one i j l k (inl x) (inl y) = D i j l k (same-clash (nameOf (w i)) (nameOf (w j)) (A .near i j (x .0) (y .0)) (given-meets s (nameOf (w i) .secondary) (nameOf (w j) .secondary) (x .1) (y .1)))
+        one i j l k (inl x) (inl y) = D i j l k
+            (same-clash (nameOf (w i)) (nameOf (w j)) (A .near i j (x .0) (y .0))
+            (given-meets s (nameOf (w i) .secondary) (nameOf (w j) .secondary) (x .1) (y .1)))
         one i j l k (inl x) (inr y) = let z = A .led i j (x .0) (y .1) in let v = y .0 in no (cc)
         one i j l k (inr x) (inl y) = let z = A .led j i (y .0) (x .1) in let v = x .0 in no (cc)
         one i j l k (inr x) (inr y) = A .one i j (x .1) (y .1)
@@ -280,7 +312,8 @@ module _ (atn : Bool) (on : atn ≡ true) (n : ℕ) (w u : ℕ → Role) (D : Ap
 
   pub hear-all : (m : Meaning) → Heard m → Addressed atn u
   hear-all Other H = tame Other H (λ r e. e) (λ r. refl)
-  hear-all (Listen a) H = tame (Listen a) H (λ r. listen-talk (nameOf r .secondary) (owns a r) r) (λ r. listen-unmarked (nameOf r .secondary) (owns a r))
+  hear-all (Listen a) H = tame (Listen a) H (λ r. listen-talk (nameOf r .secondary) (owns a r) r)
+      (λ r. listen-unmarked (nameOf r .secondary) (owns a r))
   hear-all Unlisten H = tame Unlisten H (λ r e. e) (λ r. refl)
   hear-all (Talk a) H = talked a H
   hear-all Untalk H = tame Untalk H (λ r e. no (cc)) (λ r. refl)

@@ -1,4 +1,5 @@
--- A role: a party's name, flags and mark; and what hearing a command does to them (document 01, "Hearing"; document 02, Q-3).
+-- A role: a party's name, flags and mark; and what hearing a command does to them (document 01, "Hearing"; document 02,
+-- Q-3).
 -- Assumes nothing.
 use mathlib.Core.Bool.{Bool, false, true, cond}
 use lib.Dec.{eqb}
@@ -23,21 +24,21 @@ withPollMode q r = record { name = r .name; talk = r .talk; listen = r .listen; 
 abbrev pub withMark : Mark → Role → Role
 withMark m r = record { name = r .name; talk = r .talk; listen = r .listen; poll = r .poll; mark = m }
 
--- The owns primary, and the owns secondary, which a party that was built with none has not.
+-- The own primary, and the own secondary, which a party that was built with none has not.
 abbrev pub owns : Address → Role → Bool
 owns a r = eqb (a .0) (r .name .address .0)
 
 abbrev pub ownsSecondary : SecondaryAddress → Role → Bool
 ownsSecondary s r = isGiven s (r .name .secondary)
 
--- The mark that a talk or listen address sets, the owns one or not. Document 02, Q-3: "For such a party the owns talk (listen) address only sets
--- "talk primary" ("listen primary")."
+-- The mark that a talk or listen address sets, the own one or not. Document 02, Q-3: "For such a party the own talk
+-- (listen) address only sets "talk primary" ("listen primary")."
 abbrev pub markOf : Secondary → Bool → Mark → Mark
 markOf Absent mine m = Unmarked
 markOf (Given s) mine m = cond mine m Unmarked
 
--- The mark that hearing leaves. "00 to 5F are primary commands, 60 to 7E secondaries, 7F neither." "Each of the two clears the other mark, any further
--- primary command clears both": the mark outlasts a secondary, and 7F.
+-- The mark that hearing leaves. "00 to 5F are primary commands, 60 to 7E secondaries, 7F neither." "Each of the two
+-- clears the other mark, any further primary command clears both": the mark outlasts a secondary, and 7F.
 abbrev pub markAfter : Meaning → Role → Mark
 markAfter Other r = Unmarked
 markAfter (Listen a) r = markOf (r .name .secondary) (owns a r) ListenPrimary
@@ -53,8 +54,8 @@ markAfter Spd r = Unmarked
 markAfter (Second s) r = r .mark
 markAfter Neither r = r .mark
 
--- A primary address, the owns one or not: "Own listen address: listen on, talk off." "Own talk address: talk on, listen off. Another talk address ..:
--- talk off." With a secondary the owns one leaves both alone.
+-- A primary address, the own one or not: "Own listen address: listen on, talk off." "Own talk address: talk on, listen
+-- off. Another talk address ..: talk off." With a secondary the own one leaves both alone.
 abbrev pub listenAddressed : Secondary → Bool → Role → Role
 listenAddressed Absent mine r = cond mine (withFlags false true r) r
 listenAddressed (Given s) mine r = r
@@ -63,14 +64,15 @@ abbrev pub talkAddressed : Secondary → Bool → Role → Role
 talkAddressed Absent mine r = cond mine (withFlags true false r) (withFlags false (r .listen) r)
 talkAddressed (Given s) mine r = cond mine r (withFlags false (r .listen) r)
 
--- A secondary, the owns one or not: "The owns secondary (60 + secondary) while talk primary turns talk on and listen off; while listen primary it turns
--- listen on and talk off. Any other secondary while talk primary turns talk off."
+-- A secondary, the own one or not: "The own secondary (60 + secondary) while talk primary turns talk on and listen
+-- off; while listen primary it turns listen on and talk off. Any other secondary while talk primary turns talk off."
 abbrev pub seconded : Mark → Bool → Role → Role
 seconded Unmarked mine r = r
 seconded TalkPrimary mine r = cond mine (withFlags true false r) (withFlags false (r .listen) r)
 seconded ListenPrimary mine r = cond mine (withFlags false true r) r
 
--- The flags that hearing leaves. "UNL: listen off." ".. or UNT: talk off. SPE, SPD: poll mode on, off." "TCT does nothing when heard".
+-- The flags that hearing leaves. "UNL: listen off." ".. or UNT: talk off. SPE, SPD: poll mode on, off." "TCT does
+-- nothing when heard".
 abbrev pub addressed : Meaning → Role → Role
 addressed Other r = r
 addressed (Listen a) r = listenAddressed (r .name .secondary) (owns a r) r
@@ -90,7 +92,8 @@ addressed Neither r = r
 abbrev pub roleHeard : Meaning → Role → Role
 roleHeard m r = withMark (markAfter m r) (addressed m r)
 
--- The event of who hears, listening or not. "DCL, or SDC while listening: event clear. GET while listening: event trigger."
+-- The event of who hears, listening or not. "DCL, or SDC while listening: event clear. GET while listening: event
+-- trigger."
 abbrev pub hearEvent : Meaning → Bool → Event
 hearEvent Other listen = ev.Heard
 hearEvent (Listen a) listen = ev.Heard

@@ -8,5 +8,13 @@ use Rattle.run.specs.Run.{answerTo, records, textFrom, textOf}
 use Rattle.run.specs.Examples.{Holds}
 
 pub examples : Holds
-unfolding codes decimalOf numberText wordText byteText headText eventText countsText lineOf orderOf countUp buildFrom obey answerTo records textFrom textOf
-examples = record { document = refl; empty = refl; wrong-mark = refl; short-tail = refl; unknown = refl; second-request = refl }
+unfolding codes decimalOf numberText wordText byteText headText eventText countsText lineOf orderOf countUp buildFrom
+    obey answerTo records textFrom textOf
+examples = record {
+  document = refl;
+  empty = refl;
+  wrong-mark = refl;
+  short-tail = refl;
+  unknown = refl;
+  second-request = refl;
+}

@@ -1,4 +1,5 @@
--- What holds at each record of a run: the text so far stands in the buffer, and with the text of the records from here on it is the whole.
+-- What holds at each record of a run: the text so far stands in the buffer, and with the text of the records from here
+-- on it is the whole.
 -- Assumes nothing.
 use mathlib.Core.Path.{_≡_, refl, sym, ap, _∙_}
 use mathlib.Core.List.{List, [], _++_, append-assoc, append-nil}
@@ -23,7 +24,8 @@ pub record Going (s out₀ out : List ℕ) (b : Bus) (at n place : ℕ) : Type 0
   pub number : n ≤ at + 1
   pub room : place + 34 * ((length s - at + 5) / 6) ≤ length out
 
-pub start : (s out : List ℕ) (b : Bus) → b ≡ noParties → 34 * ((length s + 5) / 6) ≤ length out → Going s out out b 0 1 0
+pub start : (s out : List ℕ) (b : Bus) → b ≡ noParties → 34 * ((length s + 5) / 6) ≤ length out
+    → Going s out out b 0 1 0
 start s out b e h =
     record {
       done = [];
@@ -38,11 +40,14 @@ module _ {s out₀ out : List ℕ} {b : Bus} {at n place : ℕ} (g : Going s out
   pub fits : at < length s → place + 34 ≤ length out
   fits h = omega (arith, g .room)
 
-  text-turn : at < length s → textFrom b n (records (drop at s)) ≡ lineOf n (answerTo b (recordAt s at)) ++ textFrom (answerTo b (recordAt s at) .bus) (n + 1) (records (drop (next s at) s))
+  text-turn : at < length s → textFrom b n (records (drop at s)) ≡ lineOf n (answerTo b (recordAt s at)) ++ textFrom
+      (answerTo b (recordAt s at) .bus) (n + 1) (records (drop (next s at) s))
   unfolding textFrom
   text-turn h = ap (textFrom b n) (turn s at h .split)
 
-  pub again : {out′ : List ℕ} {b′ : Bus} {at′ place′ : ℕ} (a : Answer) → at < length s → a ≡ answerTo b (recordAt s at) → Wrote out place (lineOf n a) out′ place′ → b′ ≡ a .bus → at′ ≡ next s at → Going s out₀ out′ b′ at′ (n + 1) place′
+  pub again : {out′ : List ℕ} {b′ : Bus} {at′ place′ : ℕ} (a : Answer) → at < length s → a ≡ answerTo b (recordAt s at)
+      → Wrote out place (lineOf n a) out′ place′ → b′ ≡ a .bus → at′ ≡ next s at
+      → Going s out₀ out′ b′ at′ (n + 1) place′
   again {out′} {b′} {at′} {place′} a h e w f k =
       let t = turn s at h in
       record {
@@ -57,5 +62,6 @@ module _ {s out₀ out : List ℕ} {b : Bus} {at n place : ℕ} (g : Going s out
   pub ends : length s ≤ at → Wrote out₀ 0 (textFrom noParties 1 (records s)) out place
   unfolding records textFrom
   ends h =
-      let e : g .done ≡ textFrom noParties 1 (records s) = sym (append-nil (g .done)) ∙ (ap (λ (l : List ℕ). g .done ++ textFrom b n (records l)) (sym (drop-of-length-le s h)) ∙ g .rest) in
+      let e : g .done ≡ textFrom noParties 1 (records s) = sym (append-nil (g .done))
+      ∙ (ap (λ (l : List ℕ). g .done ++ textFrom b n (records l)) (sym (drop-of-length-le s h)) ∙ g .rest) in
       rw e at (g .wrote)

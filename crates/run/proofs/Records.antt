@@ -30,11 +30,20 @@ short (a ∷ b ∷ c ∷ d ∷ e ∷ f ∷ l) h k = absurd (omega arith)
 one : (s : List ℕ) (at k : ℕ) → at + k < length s → drop (at + k) s ≡ getD s (at + k) 0 ∷ drop (at + suc k) s
 one s at k h = drop-cons s (at + k) 0 h ∙ ap (λ (m : ℕ). getD s (at + k) 0 ∷ drop m s) (sym (add-suc at k))
 
-six : (s : List ℕ) (at : ℕ) → at + 6 ≤ length s → drop at s ≡ getD s at 0 ∷ getD s (at + 1) 0 ∷ getD s (at + 2) 0 ∷ getD s (at + 3) 0 ∷ getD s (at + 4) 0 ∷ getD s (at + 5) 0 ∷ drop (at + 6) s
+six : (s : List ℕ) (at : ℕ) → at + 6 ≤ length s
+    → drop at s ≡ getD s at 0 ∷ getD s (at + 1) 0 ∷ getD s (at + 2) 0 ∷ getD s (at + 3) 0 ∷ getD s (at + 4) 0 ∷ getD s
+    (at + 5) 0 ∷ drop (at + 6) s
 six s at h =
     drop-cons s at 0 (omega arith)
     ∙ ap (λ (m : ℕ). getD s at 0 ∷ drop m s) (sym (add-one at))
-    ∙ rw (one s at 1 (omega arith), one s at 2 (omega arith), one s at 3 (omega arith), one s at 4 (omega arith), one s at 5 (omega arith))
+    ∙ rw (
+      one s at 1 (omega arith),
+      one s at 2 (omega arith),
+      one s at 3 (omega arith),
+      one s at 4 (omega arith),
+      one s
+          at 5 (omega arith),
+    )
 
 -- the place after the record at a place
 abbrev pub next : List ℕ → ℕ → ℕ
@@ -47,25 +56,30 @@ pub record Turn (s : List ℕ) (at to : ℕ) : Type 0 where
   pub within : to ≤ length s
   pub fewer : (length s - to + 5) / 6 + 1 ≤ (length s - at + 5) / 6
 
-bad : (s : List ℕ) (at : ℕ) → at < length s → records (drop at s) ≡ Bad ∷ [] → recordAt s at ≡ Bad → Turn s at (next s at)
+bad : (s : List ℕ) (at : ℕ) → at < length s → records (drop at s) ≡ Bad ∷ [] → recordAt s at ≡ Bad
+    → Turn s at (next s at)
 unfolding records
 bad s at h e f =
     subst (λ (to : ℕ). Turn s at to) (sym (ap (λ (r : Next). afterOf r at (length s)) f))
     (record { split = e ∙ rw (f, drop-length); further = h; within = omega arith; fewer = omega arith })
 
-good : (s : List ℕ) (at op party value extra : ℕ) → at + 6 ≤ length s → records (drop at s) ≡ Record op party value extra ∷ records (drop (at + 6) s) → recordAt s at ≡ Record op party value extra → Turn s at (next s at)
+good : (s : List ℕ) (at op party value extra : ℕ) → at + 6 ≤ length s
+    → records (drop at s) ≡ Record op party value extra ∷ records (drop (at + 6) s)
+    → recordAt s at ≡ Record op party value extra → Turn s at (next s at)
 good s at op party value extra h e f =
     subst (λ (to : ℕ). Turn s at to) (sym (ap (λ (r : Next). afterOf r at (length s)) f))
     (record { split = e ∙ rw f; further = omega arith; within = h; fewer = omega arith })
 
-by-cases : (s : List ℕ) (at : ℕ) → at < length s → (p q r : Bool) → ltb (length s - at) 6 ≡ p → eqb (getD s at 0) 0x47 ≡ q → eqb (getD s (at + 1) 0) 0x42 ≡ r → Turn s at (next s at)
+by-cases : (s : List ℕ) (at : ℕ) → at < length s → (p q r : Bool) → ltb (length s - at) 6 ≡ p
+    → eqb (getD s at 0) 0x47 ≡ q → eqb (getD s (at + 1) 0) 0x42 ≡ r → Turn s at (next s at)
 unfolding recordAt records
 by-cases s at h true q r e f g =
     let k : length s - at < 6 = ltb-true _ _ e in
     bad s at h (short (drop at s) (rw length-drop (omega arith)) (rw length-drop k)) (simp (lt-ltb _ _ h, e))
 by-cases s at h false true true e f g =
     let k : 6 ≤ length s - at = ltb-false _ _ e in
-    good s at (getD s (at + 2) 0) (getD s (at + 3) 0) (getD s (at + 4) 0) (getD s (at + 5) 0) (omega arith) (ap records (six s at (omega arith)) ∙ simp (f, g)) (simp (lt-ltb _ _ h, e, f, g))
+    good s at (getD s (at + 2) 0) (getD s (at + 3) 0) (getD s (at + 4) 0) (getD s (at + 5) 0) (omega arith)
+    (ap records (six s at (omega arith)) ∙ simp (f, g)) (simp (lt-ltb _ _ h, e, f, g))
 by-cases s at h false true false e f g =
     let k : 6 ≤ length s - at = ltb-false _ _ e in
     bad s at h (ap records (six s at (omega arith)) ∙ simp (f, g)) (simp (lt-ltb _ _ h, e, f, g))

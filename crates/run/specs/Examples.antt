@@ -1,9 +1,9 @@
--- Scripts with the text that document 01 asks for, byte by byte: its own script, an empty one, a wrong mark, a short tail, an unknown operation, and
--- the second request bit of document 02, Q-5, with its refusals.
+-- Scripts with the text that document 01 asks for, byte by byte: its own script, an empty one, a wrong mark, a short
+-- tail, an unknown operation, and the second request bit of document 02, Q-5, with its refusals.
 -- Assumes nothing.
 use Prim.Native.Nat.{ℕ}
 use mathlib.Core.Path.{_≡_}
-use mathlib.Core.List.{List, [], _∷_}
+use mathlib.Core.List.{List, [], _∷_, _++_}
 use Rattle.event.specs.Words.{codes}
 use Rattle.run.specs.Run.{textOf}
 
@@ -11,15 +11,23 @@ use Rattle.run.specs.Run.{textOf}
 abbrev rec : ℕ → ℕ → ℕ → ℕ → List ℕ → List ℕ
 rec op party value extra rest = 0x47 ∷ 0x42 ∷ op ∷ party ∷ value ∷ extra ∷ rest
 
--- "Script, hexadecimal after the mark: 00000205, 06000100, 05010100, 02004101, 01000000, 01010000, 01000000, 01010000, 01000000, 01010000, 01000000, 03010000."
+-- "Script, hexadecimal after the mark: 00000205, 06000100, 05010100, 02004101, 01000000, 01010000, 01000000, 01010000,
+-- 01000000, 01010000, 01000000, 03010000."
 abbrev pub script : List ℕ
 script =
-    rec 0 0 2 5 (rec 6 0 1 0 (rec 5 1 1 0 (rec 2 0 0x41 1 (rec 1 0 0 0 (rec 1 1 0 0 (rec 1 0 0 0 (rec 1 1 0 0 (rec 1 0 0 0 (rec 1 1 0 0 (rec 1 0 0 0 (rec 3 1 0 0 [])))))))))))
+    rec 0 0 2 5 (rec 6 0 1 0 (rec 5 1 1 0
+    (rec 2 0 0x41 1 (rec 1 0 0 0
+    (rec 1 1 0 0 (rec 1 0 0 0 (rec 1 1 0 0 (rec 1 0 0 0 (rec 1 1 0 0 (rec 1 0 0 0 (rec 3 1 0 0 [])))))))))))
 
 pub record Holds : Type 0 where
-  pub document : textOf script ≡ codes "1 0 none -- 0 0 0\n2 0 none -- 0 0 0\n3 0 none -- 0 0 0\n4 0 none -- 0 0 0\n5 0 moved -- 0 0 0\n6 0 moved -- 0 0 0\n7 0 data 41 1 0 0\n8 0 took 41 1 0 0\n9 0 none -- 0 0 0\n10 0 moved -- 0 0 0\n11 0 ended 41 1 0 0\n12 0 read 41 1 0 0\n"
+  pub document : textOf script
+      ≡ codes "1 0 none -- 0 0 0\n2 0 none -- 0 0 0\n3 0 none -- 0 0 0\n4 0 none -- 0 0 0\n"
+      ++ codes "5 0 moved -- 0 0 0\n6 0 moved -- 0 0 0\n7 0 data 41 1 0 0\n8 0 took 41 1 0 0\n"
+      ++ codes "9 0 none -- 0 0 0\n10 0 moved -- 0 0 0\n11 0 ended 41 1 0 0\n12 0 read 41 1 0 0\n"
   pub empty : textOf [] ≡ []
-  pub wrong-mark : textOf (rec 0 0 1 5 (0x47 ∷ 0x43 ∷ 1 ∷ 0 ∷ 0 ∷ 0 ∷ rec 1 0 0 0 [])) ≡ codes "1 0 none -- 0 0 0\n2 10 none -- 0 0 0\n"
+  pub wrong-mark : textOf (rec 0 0 1 5 (0x47 ∷ 0x43 ∷ 1 ∷ 0 ∷ 0 ∷ 0 ∷ rec 1 0 0 0 []))
+      ≡ codes "1 0 none -- 0 0 0\n2 10 none -- 0 0 0\n"
   pub short-tail : textOf (rec 12 0 0 0 (0x47 ∷ 0x42 ∷ 1 ∷ [])) ≡ codes "1 0 lines 00 0 0 0\n2 10 none -- 0 0 0\n"
   pub unknown : textOf (rec 14 0 0 0 (rec 0 0 16 0 [])) ≡ codes "1 3 none -- 0 0 0\n2 2 none -- 0 0 0\n"
-  pub second-request : textOf (rec 0 0 2 5 (rec 13 1 1 9 (rec 12 0 0 0 (rec 13 1 2 0 (rec 13 2 2 0 []))))) ≡ codes "1 0 none -- 0 0 0\n2 0 none -- 0 0 0\n3 0 lines 04 0 0 0\n4 3 none -- 0 0 0\n5 1 none -- 0 0 0\n"
+  pub second-request : textOf (rec 0 0 2 5 (rec 13 1 1 9 (rec 12 0 0 0 (rec 13 1 2 0 (rec 13 2 2 0 [])))))
+      ≡ codes "1 0 none -- 0 0 0\n2 0 none -- 0 0 0\n3 0 lines 04 0 0 0\n4 3 none -- 0 0 0\n5 1 none -- 0 0 0\n"

@@ -29,7 +29,8 @@ afterOf (Record op party value extra) at len = at + 6
 afterOf Bad at len = len
 afterOf End at len = len
 
--- The records of a script: "A record is 6 bytes: mark 47 42 (hexadecimal), operation, party, value, extra." What is none is the last.
+-- The records of a script: "A record is 6 bytes: mark 47 42 (hexadecimal), operation, party, value, extra." What is
+-- none is the last.
 unfoldable pub records : List ℕ → List Next
 records [] = []
 records (a ∷ []) = Bad ∷ []
@@ -45,11 +46,13 @@ unfoldable pub textFrom : Bus → ℕ → List Next → List ℕ
 textFrom b n [] = []
 textFrom b n (r ∷ rs) = lineOf n (answerTo b r) ++ textFrom (answerTo b r .bus) (n + 1) rs
 
--- "starts from the bus of no parties and prints per record: number from 1 ..; over 65,532 bytes gives only record 0 with 10"
+-- "starts from the bus of no parties and prints per record: number from 1 ..; over 65,532 bytes gives only record 0
+-- with 10"
 unfoldable pub textOf : List ℕ → List ℕ
 textOf s = cond (ltb 65532 (length s)) (lineOf 0 (refuse ruling.Record noParties)) (textFrom noParties 1 (records s))
 
--- The n bytes of the text stand at the start of the buffer and the rest is unchanged; or the buffer has less than 34 bytes for each record, and is unchanged.
+-- The n bytes of the text stand at the start of the buffer and the rest is unchanged; or the buffer has less than 34
+-- bytes for each record, and is unchanged.
 abbrev pub RanAs : List ℕ → List ℕ → List ℕ → Ran → Type 0
 RanAs s before after (ran.Wrote n) = (n ≡ length (textOf s)) × (after ≡ textOf s ++ drop n before)
 RanAs s before after ran.NoRoom = (after ≡ before) × (length before < 34 * ((length s + 5) / 6))

@@ -45,10 +45,15 @@ fn after_of(next: Next, at: usize, len: usize) -> usize
     }
 }
 
-// A line for each record, from the bus of no parties. A build makes it, since a bus written out as a constant is kept field by field.
+// A line for each record, from the bus of no parties. A build makes it, since a bus written out as a constant is kept
+// field by field.
 fn run_all(script: &[u8], out: &mut [u8]) -> usize
     requires { ⌜ 34 * ((length (now script) + 5) / 6) ≤ length (now out) ⌝ }
-    ensures { λ r. ⌜ Wrote (now (out .entry)) 0 (textFrom noParties 1 (records (now (script .entry)))) (now (out .exit)) r ⌝ }
+    ensures { λ r.
+        ⌜
+        Wrote (now (out .entry)) 0 (textFrom noParties 1 (records (now (script .entry))))
+        (now (out .exit)) r
+        ⌝ }
 {
     let none = Bus::build(b"", Place(0));
     let mut bus = none.bus;
@@ -72,7 +77,8 @@ pub enum Ran {
     NoRoom,
 }
 
-// Runs a script and writes its text at the start of out. A line has at most 34 bytes: where out has less than that for each record, nothing is written.
+// Runs a script and writes its text at the start of out. A line has at most 34 bytes: where out has less than that for
+// each record, nothing is written.
 pub fn run(script: &[u8], out: &mut [u8]) -> Ran
     ensures { λ r. ⌜ RanAs (now (script .entry)) (now (out .entry)) (now (out .exit)) r ⌝ }
 {

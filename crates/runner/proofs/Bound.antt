@@ -51,7 +51,8 @@ module _ (n p w v : ℕ) (e : Bool) where
     Mute o = isPut (o .answer .event) ≡ false
 
     -- what holds of the first, and of the rest, holds of all
-    earlier : (R : Moment → Type 0) (b : Bus) (i : ℕ) (xs : List ℕ) (k : ℕ) → R (at b (i ∷ xs) 0) → ((j : ℕ) → j < k → R (at (m.call b (stepOf i) .bus) xs j)) → (j : ℕ) → j < suc k → R (at b (i ∷ xs) j)
+    earlier : (R : Moment → Type 0) (b : Bus) (i : ℕ) (xs : List ℕ) (k : ℕ) → R (at b (i ∷ xs) 0)
+        → ((j : ℕ) → j < k → R (at (m.call b (stepOf i) .bus) xs j)) → (j : ℕ) → j < suc k → R (at b (i ∷ xs) j)
     earlier R b i xs k r h zero l = r
     earlier R b i xs k r h (suc j) l = h j (le-of-suc-le-suc l)
 
@@ -63,7 +64,12 @@ module _ (n p w v : ℕ) (e : Bool) where
 
     finish : (b : Bus) (xs ys : List ℕ) → Finishes n p w v e b xs → Finish b xs ys
     finish b [] ys f = absurd f
-    finish b (i ∷ is) ys (inl r) = record { end = 0; soon = omega arith; says = (ap stepOf (r .0), r .1, r .2, r .3); calm = λ j h. absurd (not-suc-le-zero h) }
+    finish b (i ∷ is) ys (inl r) = record {
+      end = 0;
+      soon = omega arith;
+      says = (ap stepOf (r .0), r .1, r .2, r .3);
+      calm = λ j h. absurd (not-suc-le-zero h);
+    }
     finish b (i ∷ is) ys (inr r) = let g = finish (m.call b (stepOf i) .bus) is ys (r .1) in record {
       end = suc (g .end);
       soon = let z = g .soon in omega arith;
@@ -94,7 +100,8 @@ module _ (n p w v : ℕ) (e : Bool) where
       calm = λ j a l. after (g .end) (g .calm) j a l;
     }
       where
-        after : (k : ℕ) → ((j : ℕ) → j < k → Calm (at (m.call b (stepOf i) .bus) (is ++ ys) j)) → (j : ℕ) → 0 < j → j < suc k → Calm (at b (i ∷ (is ++ ys)) j)
+        after : (k : ℕ) → ((j : ℕ) → j < k → Calm (at (m.call b (stepOf i) .bus) (is ++ ys) j)) → (j : ℕ) → 0 < j
+            → j < suc k → Calm (at b (i ∷ (is ++ ys)) j)
         after k h zero a l = absurd (not-suc-le-zero a)
         after k h (suc j) a l = h j (le-of-suc-le-suc l)
     deliver b (i ∷ is) ys (inr r) = let g = deliver (m.call b (stepOf i) .bus) is ys (r .1) in record {
@@ -108,32 +115,41 @@ module _ (n p w v : ℕ) (e : Bool) where
       calm = λ j a l. between (g .put) (g .end) (g .calm) j a l;
     }
       where
-        between : (a k : ℕ) → ((j : ℕ) → a < j → j < k → Calm (at (m.call b (stepOf i) .bus) (is ++ ys) j)) → (j : ℕ) → suc a < j → j < suc k → Calm (at b (i ∷ (is ++ ys)) j)
+        between : (a k : ℕ) → ((j : ℕ) → a < j → j < k → Calm (at (m.call b (stepOf i) .bus) (is ++ ys) j)) → (j : ℕ)
+            → suc a < j → j < suc k → Calm (at b (i ∷ (is ++ ys)) j)
         between a k h zero x l = absurd (not-suc-le-zero x)
         between a k h (suc j) x l = h j (le-of-suc-le-suc x) (le-of-suc-le-suc l)
 
   ends-within : (b : Bus) (xs ys : List ℕ) → Delivers n p w v e b xs → EndsWithin b (steps (xs ++ ys)) p v e (length xs)
-  ends-within b xs ys D = let g = deliver (record { before = b; call = call-of.Lines; answer = refuse ruling.Accepted b }) b xs ys D in record {
-    put = g .put;
-    end = g .end;
-    soon = g .soon;
-    stands = ((inside (g .put) (let y = g .later in let z = g .soon in omega arith), ap isPut (g .putSays .1)), g .later, λ j l u x. calm (moment b (steps (xs ++ ys)) j) (g .calm j l u) x);
-    ends = ap isEnd (g .endSays .1);
-    first = λ j l x. mute (moment b (steps (xs ++ ys)) j) (g .mute j l) (x .1);
-    putter = g .putSays .0;
-    putSays = g .putSays .1;
-    putValue = g .putSays .2;
-    putEnd = g .putSays .3;
-    ender = g .endSays .0;
-    endSays = g .endSays .1;
-    endValue = g .endSays .2;
-    endEnd = g .endSays .3;
-  }
+  ends-within b xs ys D =
+      let g = deliver (record { before = b; call = call-of.Lines; answer = refuse ruling.Accepted b }) b xs ys D in
+      record {
+        put = g .put;
+        end = g .end;
+        soon = g .soon;
+        stands = (
+          (inside (g .put) (let y = g .later in let z = g .soon in omega arith), ap isPut (g .putSays .1)),
+          g
+              .later,
+          λ j l u x. calm (moment b (steps (xs ++ ys)) j) (g .calm j l u) x,
+        );
+        ends = ap isEnd (g .endSays .1);
+        first = λ j l x. mute (moment b (steps (xs ++ ys)) j) (g .mute j l) (x .1);
+        putter = g .putSays .0;
+        putSays = g .putSays .1;
+        putValue = g .putSays .2;
+        putEnd = g .putSays .3;
+        ender = g .endSays .0;
+        endSays = g .endSays .1;
+        endValue = g .endSays .2;
+        endEnd = g .endSays .3;
+      }
     where
       inside : (i : ℕ) → i < length xs → i < length (steps (xs ++ ys))
       inside i l = rw (length-map (xs ++ ys) stepOf, length-append xs ys) (omega arith)
 
-      calm : (o : Moment) → (isEnd (o .answer .event) ≡ false) × (o .answer .broken ≡ 0) → (isEnd (o .answer .event) ≡ true) ⊎ (o .answer .broken ≡ 1) → ⊥
+      calm : (o : Moment) → (isEnd (o .answer .event) ≡ false) × (o .answer .broken ≡ 0)
+          → (isEnd (o .answer .event) ≡ true) ⊎ (o .answer .broken ≡ 1) → ⊥
       calm o h (inl f) = let z = h .0 in no (cc)
       calm o h (inr f) = let z = h .1 in no (cc)
 
@@ -143,12 +159,21 @@ module _ (n p w v : ℕ) (e : Bool) where
   -- where the request starts from
   waits : (b : Bus) → Inv b → b .count ≡ n → Offered b p w v e → Waits n p w v e b
   waits b I c F = record {
-    base = record { inv = I; count = c; there = rw c at (F .there); quiet = F .quiet; talks = F .talks; aids = I .pre .listens (F .quiet) p mute };
-    none = nothing-stands (b .count) (atnOf b) (here b) (b .standing) (I .pre) (quiet b I) p source (λ h. let z = F .ready in no (cc));
+    base = record {
+      inv = I;
+      count = c;
+      there = rw c at (F .there);
+      quiet = F .quiet;
+      talks = F .talks;
+      aids = I .pre .listens (F .quiet) p mute;
+    };
+    none = nothing-stands (b .count) (atnOf b) (here b) (b .standing) (I .pre) (quiet b I) p source
+        (λ h. let z = F .ready in no (cc));
     unpolled = rw (F .quiet, F .talks) at (F .unpolled);
     held = F .held;
     source = inl (F .ready);
-    empty = λ j. test (ltb j (b .count)) (λ h. F .empty j (ltb-true j (b .count) h)) (λ h. ap (λ (x : Party). x .input) (I .pre .tail j (ltb-false j (b .count) h)));
+    empty = λ j. test (ltb j (b .count)) (λ h. F .empty j (ltb-true j (b .count) h))
+        (λ h. ap (λ (x : Party). x .input) (I .pre .tail j (ltb-false j (b .count) h)));
     part = I .pre .joins (F .quiet) w (F .listens);
   }
     where
@@ -168,19 +193,24 @@ times (suc k) l r = l + times k l r
 
 rota-rounds : (k : ℕ) (q : List ℕ) (r : ℕ) → rota (times k (length q) r) q ≡ (rounds k q ++ rota r q)
 rota-rounds zero q r = refl
-rota-rounds (suc k) q r = rota-round q (times k (length q) r) ∙ ap (λ (l : List ℕ). q ++ l) (rota-rounds k q r) ∙ sym (append-assoc q (rounds k q) (rota r q))
+rota-rounds (suc k) q r = rota-round q (times k (length q) r) ∙ ap (λ (l : List ℕ). q ++ l) (rota-rounds k q r)
+    ∙ sym (append-assoc q (rounds k q) (rota r q))
 
 rounds-length : (k : ℕ) (q : List ℕ) → length (rounds k q) ≡ times k (length q) 0
 rounds-length zero q = refl
 rounds-length (suc k) q = length-append q (rounds k q) ∙ ap (λ (x : ℕ). length q + x) (rounds-length k q)
 
 -- Seven rounds of any list that has every place, and whatever turns follow.
-bound-rounds : (b : Bus) → Inv b → (p w v : ℕ) (e : Bool) → Offered b p w v e → (round ys : List ℕ) → ((k : ℕ) → member k round ≡ ltb k (b .count)) → EndsWithin b (steps (rounds 7 round ++ ys)) p v e (length (rounds 7 round))
-bound-rounds b I p w v e F round ys cover = ends-within (b .count) p w v e b (rounds 7 round) ys (seven (b .count) p w v e round cover b (waits (b .count) p w v e b I refl F))
+bound-rounds : (b : Bus) → Inv b → (p w v : ℕ) (e : Bool) → Offered b p w v e → (round ys : List ℕ)
+    → ((k : ℕ) → member k round ≡ ltb k (b .count))
+    → EndsWithin b (steps (rounds 7 round ++ ys)) p v e (length (rounds 7 round))
+bound-rounds b I p w v e F round ys cover = ends-within (b .count) p w v e b (rounds 7 round) ys
+    (seven (b .count) p w v e round cover b (waits (b .count) p w v e b I refl F))
 
 bound-from : (b : Bus) → Inv b → (tie : TieOrder) → Orders tie (b .count) → EndsSoon tie b
 bound-from b I tie O p w v e F t l = subst (λ (xs : List ℕ). EndsWithin b (steps xs) p v e (7 * n)) (sym split)
-    (subst (λ (x : ℕ). EndsWithin b (steps (rounds 7 q ++ rota (t - 7 * n) q)) p v e x) size (bound-rounds b I p w v e F q (rota (t - 7 * n) q) (order-member tie n)))
+    (subst (λ (x : ℕ). EndsWithin b (steps (rounds 7 q ++ rota (t - 7 * n) q)) p v e x) size
+    (bound-rounds b I p w v e F q (rota (t - 7 * n) q) (order-member tie n)))
   where
     n : ℕ
     n = b .count
@@ -189,7 +219,8 @@ bound-from b I tie O p w v e F t l = subst (λ (xs : List ℕ). EndsWithin b (st
     q = inOrder tie n
 
     fits : within n ≡ n
-    fits = cond-elim (λ (x : ℕ). x ≡ n) (ltb n 15) (λ _. refl) (λ h. let z = ltb-false n 15 h in let y = I .small in omega arith)
+    fits = cond-elim (λ (x : ℕ). x ≡ n) (ltb n 15) (λ _. refl)
+        (λ h. let z = ltb-false n 15 h in let y = I .small in omega arith)
 
     size : length (rounds 7 q) ≡ 7 * n
     size = rounds-length 7 q ∙ (let z = order-length tie n in omega arith)
@@ -198,10 +229,13 @@ bound-from b I tie O p w v e F t l = subst (λ (xs : List ℕ). EndsWithin b (st
     whole = let z = order-length tie n in omega arith
 
     split : turnsOf tie b t ≡ (rounds 7 q ++ rota (t - 7 * n) q)
-    split = rw (ne-eqb n 0 (λ h. let z = F .there in omega arith), fits) (turns-order tie n O (let z = F .there in omega arith) t) ∙ ap (λ (x : ℕ). rota x q) whole ∙ rota-rounds 7 q (t - 7 * n)
+    split = rw (ne-eqb n 0 (λ h. let z = F .there in omega arith), fits)
+        (turns-order tie n O (let z = F .there in omega arith) t) ∙ ap (λ (x : ℕ). rota x q) whole
+        ∙ rota-rounds 7 q (t - 7 * n)
 
 pub bound : Bound
 bound names system ok cs tie = bound-from (m.run (buildExtended names system .bus) cs) (reached names system ok cs) tie
 
 pub bound-by-place : BoundByPlace
-bound-by-place names system ok cs = bound names system ok cs byPlace (place-orders (m.run (buildExtended names system .bus) cs .count))
+bound-by-place names system ok cs = bound names system ok cs byPlace
+    (place-orders (m.run (buildExtended names system .bus) cs .count))

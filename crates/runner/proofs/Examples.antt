@@ -10,7 +10,16 @@ use Rattle.runner.specs.Bound.{Offered}
 use Rattle.runner.specs.Examples.{slow, after, Examples}
 
 offered : Offered (after slow) 0 1 65 true
-offered = record { there = lib.Dec.lit< tt; quiet = refl; talks = refl; unpolled = refl; ready = refl; held = refl; listens = refl; empty = each }
+offered = record {
+  there = lib.Dec.lit< tt;
+  quiet = refl;
+  talks = refl;
+  unpolled = refl;
+  ready = refl;
+  held = refl;
+  listens = refl;
+  empty = each;
+}
   where
     each : (j : ℕ) → j < 2 → here (after slow) j .input ≡ Empty
     each zero l = refl
@@ -18,4 +27,14 @@ offered = record { there = lib.Dec.lit< tt; quiet = refl; talks = refl; unpolled
     each (suc (suc j)) l = absurd (not-suc-le-zero (le-of-suc-le-suc (le-of-suc-le-suc l)))
 
 pub examples : Examples
-examples = record { longest = refl; byNumber = refl; fromTheTop = refl; script = refl; scriptEnds = refl; premises = offered; notInFiveRounds = refl; inOneTurnMore = refl; nobody = refl }
+examples = record {
+  longest = refl;
+  byNumber = refl;
+  fromTheTop = refl;
+  script = refl;
+  scriptEnds = refl;
+  premises = offered;
+  notInFiveRounds = refl;
+  inOneTurnMore = refl;
+  nobody = refl;
+}

@@ -1,4 +1,4 @@
--- The loop of the giveTurns: how far it has come.
+-- The loop of the runner: how far it has come.
 -- Assumes nothing.
 use mathlib.Core.Path.{_≡_, refl, sym, ap, _∙_}
 use mathlib.Core.List.{List, [], _∷_, _++_}
@@ -41,21 +41,33 @@ some-within count ne = cond-elim (λ (n : ℕ). 0 < n) (ltb count 15) (λ _. pos
     positive (suc n) ne = omega arith
 
 pub start : (b : Bus) (n T : ℕ) → 0 < n → n ≤ 15 → Going b n T (replicate 15 0) b 0
-start b n T p l = record { some = p; few = l; soFar = omega arith; bus = refl; tally = refl; small = λ j. let z = wait-zero 15 j in omega arith }
+start b n T p l = record {
+  some = p;
+  few = l;
+  soFar = omega arith;
+  bus = refl;
+  tally = refl;
+  small = λ j. let z = wait-zero 15 j in omega arith;
+}
 
 -- the next turn is that of one of the fifteen places
-pub in-places : {b : Bus} {n T : ℕ} {counts : List ℕ} {after : Bus} {t k : ℕ} → Going b n T counts after t → k ≡ t % n → k < 15
+pub in-places : {b : Bus} {n T : ℕ} {counts : List ℕ} {after : Bus} {t k : ℕ} → Going b n T counts after t → k ≡ t % n
+    → k < 15
 in-places {t = t} G e = let z = mod-lt t (G .some) in let y = G .few in omega arith
 
-pub again : {b : Bus} {n T : ℕ} {counts : List ℕ} {after : Bus} {t : ℕ} → Going b n T counts after t → t < T → {k : ℕ} → k ≡ t % n → {a : Answer} → a ≡ m.call after (stepOf (k % 256))
+pub again : {b : Bus} {n T : ℕ} {counts : List ℕ} {after : Bus} {t : ℕ} → Going b n T counts after t → t < T → {k : ℕ}
+    → k ≡ t % n → {a : Answer} → a ≡ m.call after (stepOf (k % 256))
     → Going b n T (set counts k (getD counts k 0 + 1)) (a .bus) (t + 1)
 again {b} {n} {T} {counts} {after} {t} G l {k} f {a} e = record {
   some = G .some;
   few = G .few;
   soFar = omega arith;
-  bus = ap (λ (x : Answer). x .bus) e ∙ ap (λ (j : ℕ). m.call after (stepOf j) .bus) fits ∙ ap (λ (c : Bus). m.call c (stepOf k) .bus) (G .bus)
-      ∙ sym (ap (λ (ys : List ℕ). m.run b (steps ys)) next ∙ ap (m.run b) (steps-append (take t xs) (k ∷ [])) ∙ run-append b (steps (take t xs)) (stepOf k ∷ []));
-  tally = ap (λ (cs : List ℕ). set cs k (getD cs k 0 + 1)) (G .tally) ∙ sym (ap (counted (replicate 15 0)) next ∙ counted-append (replicate 15 0) (take t xs) (k ∷ []));
+  bus = ap (λ (x : Answer). x .bus) e ∙ ap (λ (j : ℕ). m.call after (stepOf j) .bus) fits
+      ∙ ap (λ (c : Bus). m.call c (stepOf k) .bus) (G .bus)
+      ∙ sym (ap (λ (ys : List ℕ). m.run b (steps ys)) next ∙ ap (m.run b) (steps-append (take t xs) (k ∷ []))
+      ∙ run-append b (steps (take t xs)) (stepOf k ∷ []));
+  tally = ap (λ (cs : List ℕ). set cs k (getD cs k 0 + 1)) (G .tally)
+      ∙ sym (ap (counted (replicate 15 0)) next ∙ counted-append (replicate 15 0) (take t xs) (k ∷ []));
   small = turn-adds counts k (getD counts k 0 + 1) t (let z = G .small k in omega arith) (G .small);
 }
   where
@@ -66,12 +78,15 @@ again {b} {n} {T} {counts} {after} {t} G l {k} f {a} e = record {
     fits = mod-eq-of-lt (let z = in-places G f in omega arith)
 
     next : take (t + 1) xs ≡ (take t xs ++ (k ∷ []))
-    next = rw (add-one t) (take-suc xs t 0 (rw (round-robin byPlace n (place-orders n) (G .some) T .size) l) ∙ ap (λ (x : ℕ). take t xs ++ (x ∷ [])) (turn-by-place n (G .some) T t l ∙ sym f))
+    next = rw (add-one t) (take-suc xs t 0 (rw (round-robin byPlace n (place-orders n) (G .some) T .size) l) ∙ ap
+        (λ (x : ℕ). take t xs ++ (x ∷ [])) (turn-by-place n (G .some) T t l ∙ sym f))
 
 -- all turns are given
-pub ends : {b : Bus} {T : ℕ} {counts : List ℕ} {after : Bus} {t n : ℕ} → Going b n T counts after t → T ≤ t → n ≡ within (b .count) → (b .count ≡ 0 → ⊥)
+pub ends : {b : Bus} {T : ℕ} {counts : List ℕ} {after : Bus} {t n : ℕ} → Going b n T counts after t → T ≤ t
+    → n ≡ within (b .count) → (b .count ≡ 0 → ⊥)
     → _≡_ {A = Given} (record { refusal = ruling.Accepted; counts = counts; bus = after }) (giveTurns byPlace b T)
-ends {b} {T} {counts} {after} {t} {n} G l e ne = rw (ne-eqb (b .count) 0 ne, ← e) (cc (G .bus ∙ ap (λ (ys : List ℕ). m.run b (steps ys)) whole, G .tally ∙ ap (counted (replicate 15 0)) whole))
+ends {b} {T} {counts} {after} {t} {n} G l e ne = rw (ne-eqb (b .count) 0 ne, ← e)
+    (cc (G .bus ∙ ap (λ (ys : List ℕ). m.run b (steps ys)) whole, G .tally ∙ ap (counted (replicate 15 0)) whole))
   where
     whole : take t (turns byPlace n T) ≡ turns byPlace n T
     whole = take-all t (turns byPlace n T) (rw (round-robin byPlace n (place-orders n) (G .some) T .size) l)

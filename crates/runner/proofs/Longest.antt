@@ -15,14 +15,16 @@ use Rattle.runner.specs.Waiting.{TieOrder, waitOf, goesBefore, longestOf
 
 -- what the test says, of the two waits and the tie
 says : (a b : ℕ) (t : Bool) → (ltb b a || (eqb a b && t)) ≡ true → (b < a) ⊎ ((a ≡ b) × (t ≡ true))
-says a b t h = test (ltb b a) (λ e. inl (ltb-true b a e)) (λ e. let z = both (eqb a b) t (rw e at h) in inr (eqb-true a b (z .0), z .1))
+says a b t h = test (ltb b a) (λ e. inl (ltb-true b a e))
+    (λ e. let z = both (eqb a b) t (rw e at h) in inr (eqb-true a b (z .0), z .1))
 
 said : (a b : ℕ) (t : Bool) → (b < a) ⊎ ((a ≡ b) × (t ≡ true)) → (ltb b a || (eqb a b && t)) ≡ true
 said a b t (inl h) = rw (lt-ltb b a h) refl
 said a b t (inr h) = or-right (ltb b a) (rw (eq-eqb a b (h .0)) (h .1))
 
 more : (a b : ℕ) → (b < a → ⊥) → (a ≡ b → ⊥) → a < b
-more a b h k = test (ltb a b) (ltb-true a b) (λ e. let z = ltb-false a b e in absurd (test (ltb b a) (λ f. h (ltb-true b a f)) (λ f. let y = ltb-false b a f in k (omega arith))))
+more a b h k = test (ltb a b) (ltb-true a b) (λ e. let z = ltb-false a b e in absurd
+    (test (ltb b a) (λ f. h (ltb-true b a f)) (λ f. let y = ltb-false b a f in k (omega arith))))
 
 -- By waits and then by the tie order is an order too.
 module _ (tie : TieOrder) (ws : List ℕ) (n : ℕ) (O : Orders tie n) where
@@ -32,13 +34,15 @@ module _ (tie : TieOrder) (ws : List ℕ) (n : ℕ) (O : Orders tie n) where
   abbrev G : ℕ → ℕ → Bool
   G x y = goesBefore tie ws x y
 
-  not-both : (x y : ℕ) → x < n → y < n → (W y < W x) ⊎ ((W x ≡ W y) × (tie x y ≡ true)) → (W x < W y) ⊎ ((W y ≡ W x) × (tie y x ≡ true)) → ⊥
+  not-both : (x y : ℕ) → x < n → y < n → (W y < W x) ⊎ ((W x ≡ W y) × (tie x y ≡ true))
+      → (W x < W y) ⊎ ((W y ≡ W x) × (tie y x ≡ true)) → ⊥
   not-both x y lx ly (inl h) (inl k) = omega arith
   not-both x y lx ly (inl h) (inr k) = let z = k .0 in omega arith
   not-both x y lx ly (inr h) (inl k) = let z = h .0 in omega arith
   not-both x y lx ly (inr h) (inr k) = let z = O .asym x y lx ly (h .1) in let y = k .1 in no (cc)
 
-  chained : (x y z : ℕ) → x < n → y < n → z < n → (W y < W x) ⊎ ((W x ≡ W y) × (tie x y ≡ true)) → (W z < W y) ⊎ ((W y ≡ W z) × (tie y z ≡ true)) → (W z < W x) ⊎ ((W x ≡ W z) × (tie x z ≡ true))
+  chained : (x y z : ℕ) → x < n → y < n → z < n → (W y < W x) ⊎ ((W x ≡ W y) × (tie x y ≡ true))
+      → (W z < W y) ⊎ ((W y ≡ W z) × (tie y z ≡ true)) → (W z < W x) ⊎ ((W x ≡ W z) × (tie x z ≡ true))
   chained x y z lx ly lz (inl h) (inl k) = inl (omega arith)
   chained x y z lx ly lz (inl h) (inr k) = let u = k .0 in inl (omega arith)
   chained x y z lx ly lz (inr h) (inl k) = let u = h .0 in inl (omega arith)
@@ -46,13 +50,18 @@ module _ (tie : TieOrder) (ws : List ℕ) (n : ℕ) (O : Orders tie n) where
 
   other : (x y : ℕ) → x < n → y < n → (x ≡ y → ⊥) → G x y ≡ false → (W x < W y) ⊎ ((W y ≡ W x) × (tie y x ≡ true))
   other x y lx ly ne f = test (eqb (W x) (W y))
-      (λ e. let h = eqb-true (W x) (W y) e in test (tie x y) (λ t. let z = said (W x) (W y) (tie x y) (inr (h, t)) in no (cc)) (λ t. inr (sym h, O .total x y lx ly ne t)))
-      (λ e. inl (more (W x) (W y) (λ l. let z = said (W x) (W y) (tie x y) (inl l) in no (let y : _≡_ {A = ℕ} 0 1 = cc in y)) (eqb-false (W x) (W y) e)))
+      (λ e. let h = eqb-true (W x) (W y) e in
+      test (tie x y) (λ t. let z = said (W x) (W y) (tie x y) (inr (h, t)) in no (cc))
+      (λ t. inr (sym h, O .total x y lx ly ne t)))
+      (λ e. inl (more (W x) (W y) (λ l. let z = said (W x) (W y) (tie x y) (inl l) in no
+      (let y : _≡_ {A = ℕ} 0 1 = cc in y)) (eqb-false (W x) (W y) e)))
 
   pub goes-orders : Orders (goesBefore tie ws) n
   goes-orders = record {
-    asym = λ x y lx ly e. test (G y x) (λ f. absurd (not-both x y lx ly (says (W x) (W y) (tie x y) e) (says (W y) (W x) (tie y x) f))) (λ f. f);
-    trans = λ x y z lx ly lz e f. said (W x) (W z) (tie x z) (chained x y z lx ly lz (says (W x) (W y) (tie x y) e) (says (W y) (W z) (tie y z) f));
+    asym = λ x y lx ly e. test (G y x) (λ f. absurd
+        (not-both x y lx ly (says (W x) (W y) (tie x y) e) (says (W y) (W x) (tie y x) f))) (λ f. f);
+    trans = λ x y z lx ly lz e f. said (W x) (W z) (tie x z)
+        (chained x y z lx ly lz (says (W x) (W y) (tie x y) e) (says (W y) (W z) (tie y z) f));
     total = λ x y lx ly ne e. said (W y) (W x) (tie y x) (other x y lx ly ne e);
   }
 
@@ -75,12 +84,15 @@ module _ (tie : TieOrder) (ws : List ℕ) (n : ℕ) (O : Orders tie n) where
             inn = omega arith;
             over = λ y h ne. test (eqb y x)
                 (λ q. rw (eqb-true y x q) e)
-                (λ q. goes-orders .trans (suc m) x y (omega arith) (let z = B .inn in omega arith) (omega arith) e (B .over y (below y h ne) (eqb-false y x q)));
+                (λ q. goes-orders .trans (suc m) x y (omega arith) (let z = B .inn in omega arith) (omega arith) e
+                (B .over y (below y h ne) (eqb-false y x q)));
           })
           (λ e. record {
             inn = let z = B .inn in omega arith;
             over = λ y h ne. test (eqb y (suc m))
-                (λ q. rw (eqb-true y (suc m) q) (goes-orders .total (suc m) x (omega arith) (let z = B .inn in omega arith) (λ f. let z = B .inn in omega arith) e))
+                (λ q. rw (eqb-true y (suc m) q)
+                (goes-orders .total (suc m) x (omega arith) (let z = B .inn in omega arith)
+                (λ f. let z = B .inn in omega arith) e))
                 (λ q. B .over y (below y h (eqb-false y (suc m) q)) ne);
           })
         where
@@ -100,7 +112,8 @@ module _ (tie : TieOrder) (ws : List ℕ) (n : ℕ) (O : Orders tie n) where
 pub longest-waiting : LongestFound
 longest-waiting tie ws O p = record {
   there = B .inn;
-  longest = λ y l. test (eqb y x) (λ e. let z = ap (waitOf ws) (eqb-true y x e) in omega arith) (λ e. at-least y (says (waitOf ws x) (waitOf ws y) (tie x y) (B .over y l (eqb-false y x e))));
+  longest = λ y l. test (eqb y x) (λ e. let z = ap (waitOf ws) (eqb-true y x e) in omega arith)
+      (λ e. at-least y (says (waitOf ws x) (waitOf ws y) (tie x y) (B .over y l (eqb-false y x e))));
   ties = λ y l ne e. tied y e (says (waitOf ws x) (waitOf ws y) (tie x y) (B .over y l ne));
 }
   where
@@ -110,11 +123,13 @@ longest-waiting tie ws O p = record {
     B : Best tie ws (length ws) O (length ws) (longestWaiting tie ws)
     B = best tie ws (length ws) O (length ws) p (omega arith)
 
-    at-least : (y : ℕ) → (waitOf ws y < waitOf ws x) ⊎ ((waitOf ws x ≡ waitOf ws y) × (tie x y ≡ true)) → waitOf ws y ≤ waitOf ws x
+    at-least : (y : ℕ) → (waitOf ws y < waitOf ws x) ⊎ ((waitOf ws x ≡ waitOf ws y) × (tie x y ≡ true))
+        → waitOf ws y ≤ waitOf ws x
     at-least y (inl h) = omega arith
     at-least y (inr h) = let z = h .0 in omega arith
 
-    tied : (y : ℕ) → waitOf ws y ≡ waitOf ws x → (waitOf ws y < waitOf ws x) ⊎ ((waitOf ws x ≡ waitOf ws y) × (tie x y ≡ true)) → tie x y ≡ true
+    tied : (y : ℕ) → waitOf ws y ≡ waitOf ws x
+        → (waitOf ws y < waitOf ws x) ⊎ ((waitOf ws x ≡ waitOf ws y) × (tie x y ≡ true)) → tie x y ≡ true
     tied y e (inl h) = absurd (bad e h)
       where
         bad : waitOf ws y ≡ waitOf ws x → waitOf ws y < waitOf ws x → ⊥

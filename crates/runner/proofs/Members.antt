@@ -53,14 +53,24 @@ distinct-snoc (y ∷ ys) x f d = let N = or-neither (eqb x y) (member x ys) f in
     let D = split (member y ys) (distinct ys) d in
     rw (member-append y ys (x ∷ []), D .0, ne-eqb y x (not-first x y (N .0)), distinct-snoc ys x (N .1) (D .1)) refl
 
-pub chain-snoc : (R : ℕ → ℕ → Bool) (xs : List ℕ) (x : ℕ) → Chain R xs → ((y : ℕ) → member y xs ≡ true → R y x ≡ true) → Chain R (xs ++ (x ∷ []))
+pub chain-snoc : (R : ℕ → ℕ → Bool) (xs : List ℕ) (x : ℕ) → Chain R xs → ((y : ℕ) → member y xs ≡ true → R y x ≡ true)
+    → Chain R (xs ++ (x ∷ []))
 chain-snoc R [] x c h = (λ y e. no (cc), tt)
-chain-snoc R (y ∷ ys) x c h = (λ z e. last z (eqb z x) refl (rw (member-append z ys (x ∷ [])) at e), chain-snoc R ys x (c .1) (λ z e. h z (or-right (eqb z y) e)))
+chain-snoc R (y ∷ ys) x c h = (
+  λ z e. last z (eqb z x) refl (rw (member-append z ys (x ∷ [])) at e),
+  chain-snoc R ys x
+      (c .1) (λ z e. h z (or-right (eqb z y) e)),
+)
   where
     last : (z : ℕ) (u : Bool) → eqb z x ≡ u → (member z ys || (u || false)) ≡ true → R y z ≡ true
     last z true e m = rw (eqb-true z x e) (h y (first-in y ys))
     last z false e m = c .0 z (sym (or-false (member z ys)) ∙ m)
 
-pub chain-map : (R S : ℕ → ℕ → Bool) (xs : List ℕ) → ((x y : ℕ) → member x xs ≡ true → member y xs ≡ true → R x y ≡ true → S x y ≡ true) → Chain R xs → Chain S xs
+pub chain-map : (R S : ℕ → ℕ → Bool) (xs : List ℕ)
+    → ((x y : ℕ) → member x xs ≡ true → member y xs ≡ true → R x y ≡ true → S x y ≡ true) → Chain R xs → Chain S xs
 chain-map R S [] h c = tt
-chain-map R S (x ∷ xs) h c = (λ y e. h x y (first-in x xs) (or-right (eqb y x) e) (c .0 y e), chain-map R S xs (λ y z e f. h y z (or-right (eqb y x) e) (or-right (eqb z x) f)) (c .1))
+chain-map R S (x ∷ xs) h c = (
+  λ y e. h x y (first-in x xs) (or-right (eqb y x) e) (c .0 y e),
+  chain-map R S xs
+      (λ y z e f. h y z (or-right (eqb y x) e) (or-right (eqb z x) f)) (c .1),
+)

@@ -1,4 +1,5 @@
--- How many turns an acceptor wants: before a byte can be put, and before the byte that stands can end. Each step takes one of them.
+-- How many turns an acceptor wants: before a byte can be put, and before the byte that stands can end. Each step takes
+-- one of them.
 -- Assumes nothing.
 use mathlib.Core.Path.{_≡_, refl}
 use mathlib.Core.Bool.{Bool, true, false}
@@ -15,7 +16,8 @@ use Rattle.acceptor_step.specs.AcceptorStep.{takes, acceptorIn}
 use Rattle.bus.specs.Record.{here, lines}
 use Rattle.bus.specs.Delivery.{isEnd}
 use Rattle.bus.proofs.Invariant.{Inv}
-use Rattle.runner.specs.Types.{Party, Source, Sids, Sgns, Sdys, Strs, Acceptor, Aids, Anrs, Acrs, Acds, Awns, Empty, Standing, Nothing, Byte, Bus}
+use Rattle.runner.specs.Types.{Party, Source, Sids, Sgns, Sdys, Strs, Acceptor, Aids, Anrs, Acrs, Acds, Awns}
+use Rattle.runner.specs.Types.{Empty, Standing, Nothing, Byte, Bus}
 
 -- turns wanted before a byte can be put
 abbrev acceptorRank : Acceptor → ℕ
@@ -84,14 +86,16 @@ tick-part Awns h e = no (cc)
 
 module _ (v : View) (t : v .lines .atn ≡ false) where
   -- while nothing stands
-  pub tick-acceptor : v .lines .dav ≡ false → v .party .input ≡ Empty → (a : Acceptor) → v .party .acceptor ≡ a → acceptorIn a v .party .acceptor ≡ tick a
+  pub tick-acceptor : v .lines .dav ≡ false → v .party .input ≡ Empty → (a : Acceptor) → v .party .acceptor ≡ a
+      → acceptorIn a v .party .acceptor ≡ tick a
   tick-acceptor d h Aids e = e
   tick-acceptor d h Anrs e = rw (t, h) refl
   tick-acceptor d h Acrs e = rw d e
   tick-acceptor d h Acds e = refl
   tick-acceptor d h Awns e = rw d refl
 
-  pub tick-input : v .lines .dav ≡ false → v .party .input ≡ Empty → (a : Acceptor) → acceptorIn a v .party .input ≡ Empty
+  pub tick-input : v .lines .dav ≡ false → v .party .input ≡ Empty → (a : Acceptor)
+      → acceptorIn a v .party .input ≡ Empty
   tick-input d h Aids = h
   tick-input d h Anrs = rw (t, h) refl
   tick-input d h Acrs = rw d h
@@ -108,17 +112,20 @@ module _ (v : View) (t : v .lines .atn ≡ false) where
   tock-took (Byte s k x e) h = rw t refl
 
   module _ (d : v .lines .dav ≡ true) (up : stands (v .standing) ≡ true) where
-    pub tock-left : (a : Acceptor) → v .party .acceptor ≡ a → (a ≡ Anrs → ⊥) → acceptorLeft (acceptorIn a v .party .acceptor) ≤ acceptorLeft a - 1
+    pub tock-left : (a : Acceptor) → v .party .acceptor ≡ a → (a ≡ Anrs → ⊥)
+        → acceptorLeft (acceptorIn a v .party .acceptor) ≤ acceptorLeft a - 1
     tock-left Aids h n = rw h (omega arith)
     tock-left Anrs h n = absurd (n refl)
-    tock-left Acrs h n = cond-elim (λ (x : Effect). acceptorLeft (x .party .acceptor) ≤ 1) (v .lines .dav) (λ _. tock-taken (v .standing) up) (λ f. no (cc))
+    tock-left Acrs h n = cond-elim (λ (x : Effect). acceptorLeft (x .party .acceptor) ≤ 1) (v .lines .dav)
+        (λ _. tock-taken (v .standing) up) (λ f. no (cc))
     tock-left Acds h n = omega arith
     tock-left Awns h n = rw (d, h) (omega arith)
 
     pub tock-event : (a : Acceptor) → (a ≡ Anrs → ⊥) → isEnd (acceptorIn a v .said .event) ≡ false
     tock-event Aids n = refl
     tock-event Anrs n = absurd (n refl)
-    tock-event Acrs n = cond-elim (λ (x : Effect). isEnd (x .said .event) ≡ false) (v .lines .dav) (λ _. tock-took (v .standing) up) (λ f. no (cc))
+    tock-event Acrs n = cond-elim (λ (x : Effect). isEnd (x .said .event) ≡ false) (v .lines .dav)
+        (λ _. tock-took (v .standing) up) (λ f. no (cc))
     tock-event Acds n = refl
     tock-event Awns n = rw d refl
 
@@ -146,7 +153,8 @@ ready-holds-ndac Awns e h = no (cc)
 
 -- while nothing stands DAV is false
 pub dav-off : (b : Bus) → Inv b → b .standing ≡ Nothing → lines b .dav ≡ false
-dav-off b I n = test (lines b .dav) (λ h. let r = some-true (b .count) drivesDav (b .parties) h in let z = I .pre .sends (r .0) (in-strs (here b (r .0) .source) (r .1)) in no (let y = rw n at z in cc)) (λ h. h)
+dav-off b I n = test (lines b .dav) (λ h. let r = some-true (b .count) drivesDav (b .parties) h in let z = I .pre .sends
+    (r .0) (in-strs (here b (r .0) .source) (r .1)) in no (let y = rw n at z in cc)) (λ h. h)
   where
     in-strs : (s : Source) → davAt s ≡ true → s ≡ Strs
     in-strs Sids e = no (cc)

@@ -88,7 +88,8 @@ module _ (n p w v : ℕ) (e : Bool) where
     own-source = rw (B .quiet, nobody p, B .talks) refl
 
     other-source : (i : ℕ) → (i ≡ p → ⊥) → isSource (atnOf b) (here b i) ≡ false
-    other-source i ne = test (isSource (atnOf b) (here b i)) (λ h. absurd (ne (one-source b (B .inv) i p h own-source))) (λ h. h)
+    other-source i ne = test (isSource (atnOf b) (here b i)) (λ h. absurd (ne (one-source b (B .inv) i p h own-source)))
+        (λ h. h)
 
     accepts : (i : ℕ) → i < n → (i ≡ p → ⊥) → Accepts b i
     accepts i l ne = (rw (B .count) l, other-source i ne)
@@ -121,7 +122,9 @@ module _ (n p w v : ℕ) (e : Bool) where
         talker = other-kept b (B .inv) i A p (λ h. ne (sym h))
 
     -- a step of the talker that changes it alone
-    module _ (s : Said) (q : Party) (st : Standing) (eq : m.call b (stepOf p) ≡ local b p s q st) (ec : isActive q ≡ isActive (here b p)) (et : q .role .talk ≡ here b p .role .talk) (ea : q .acceptor ≡ here b p .acceptor) where
+    module _ (s : Said) (q : Party) (st : Standing) (eq : m.call b (stepOf p) ≡ local b p s q st)
+        (ec : isActive q ≡ isActive (here b p)) (et : q .role .talk ≡ here b p .role .talk)
+        (ea : q .acceptor ≡ here b p .acceptor) where
       own-place : here (m.call b (stepOf p) .bus) p ≡ settled (atnOf b) q
       own-place = rw eq (local-same b (B .inv) p inn s q st)
 
@@ -138,9 +141,11 @@ module _ (n p w v : ℕ) (e : Bool) where
         aids = ap (λ (x : Party). x .acceptor) own-place ∙ ea ∙ B .aids;
       }
 
-  -- The byte waits. What a step then comes to: the byte is put; or it waits on, nothing is put, and the party wants a turn less.
+  -- The byte waits. What a step then comes to: the byte is put; or it waits on, nothing is put, and the party wants a
+  -- turn less.
   abbrev pub Put : Bus → ℕ → Type 0
-  Put b i = (i ≡ p) × (m.call b (stepOf i) .event ≡ ev.Data) × (m.call b (stepOf i) .byte ≡ v) × (m.call b (stepOf i) .end ≡ e)
+  Put b i = (i ≡ p) × (m.call b (stepOf i) .event ≡ ev.Data) × (m.call b (stepOf i) .byte ≡ v)
+      × (m.call b (stepOf i) .end ≡ e)
 
   pub record Waited (b : Bus) (i : ℕ) : Type 0 where
     pub waits : Waits (m.call b (stepOf i) .bus)
@@ -169,11 +174,15 @@ module _ (n p w v : ℕ) (e : Bool) where
         held = ap (λ (x : Party). x .held) talker ∙ O .held;
         source = rw talker (O .source);
         empty = λ j. test (eqb j i)
-            (λ h. rw (eqb-true j i h) (ap (λ (x : Party). x .input) own ∙ tick-input (m.viewAt (place i) (lines b) b) (B .quiet) (dav-off b (B .inv) (O .none)) (O .empty i) (here b i .acceptor)))
+            (λ h. rw (eqb-true j i h) (ap (λ (x : Party). x .input) own ∙ tick-input (m.viewAt (place i) (lines b) b)
+            (B .quiet) (dav-off b (B .inv) (O .none)) (O .empty i) (here b i .acceptor)))
             (λ h. ap (λ (x : Party). x .input) (other-kept b (B .inv) i A j (eqb-false j i h)) ∙ O .empty j);
         part = test (eqb w i)
-            (λ h f. tick-part (here b i .acceptor) (λ g. O .part (ap (λ (j : ℕ). here b j .acceptor) (eqb-true w i h) ∙ g)) (sym acc ∙ ap (λ (j : ℕ). here c j .acceptor) (sym (eqb-true w i h)) ∙ f))
-            (λ h f. O .part (sym (ap (λ (x : Party). x .acceptor) (other-kept b (B .inv) i A w (eqb-false w i h))) ∙ f));
+            (λ h f. tick-part (here b i .acceptor)
+            (λ g. O .part (ap (λ (j : ℕ). here b j .acceptor) (eqb-true w i h) ∙ g))
+            (sym acc ∙ ap (λ (j : ℕ). here c j .acceptor) (sym (eqb-true w i h)) ∙ f))
+            (λ h f. O .part (sym (ap (λ (x : Party). x .acceptor) (other-kept b (B .inv) i A w (eqb-false w i h)))
+            ∙ f));
       };
       lowers = record {
         other = λ j nj. ap rank (other-kept b (B .inv) i A j nj);
@@ -202,10 +211,13 @@ module _ (n p w v : ℕ) (e : Bool) where
         own = own-next b (B .inv) i A
 
         acc : here c i .acceptor ≡ tick (here b i .acceptor)
-        acc = ap (λ (x : Party). x .acceptor) own ∙ tick-acceptor (m.viewAt (place i) (lines b) b) (B .quiet) (dav-off b (B .inv) (O .none)) (O .empty i) (here b i .acceptor) refl
+        acc = ap (λ (x : Party). x .acceptor) own
+            ∙ tick-acceptor (m.viewAt (place i) (lines b) b) (B .quiet) (dav-off b (B .inv) (O .none)) (O .empty i)
+            (here b i .acceptor) refl
 
     -- the talker's step, where it puts nothing up
-    waits-own : (s : Said) (x : Source) → m.call b (stepOf p) ≡ local b p s (withSource x P) (b .standing) → settled (atnOf b) (withSource x P) .source ≡ Sdys
+    waits-own : (s : Said) (x : Source) → m.call b (stepOf p) ≡ local b p s (withSource x P) (b .standing)
+        → settled (atnOf b) (withSource x P) .source ≡ Sdys
         → (((j : ℕ) → rank (here b j) ≤ 0) → ⊥) → Waited b p
     waits-own s x eq es up = record {
       waits = record {
@@ -260,25 +272,31 @@ module _ (n p w v : ℕ) (e : Bool) where
     its-kind : kindOf (isActive P) (isPolled (atnOf b) P) ≡ Data
     its-kind = rw (nobody b B p, B .quiet, B .talks, O .unpolled) refl
 
-    as-moved : P .source ≡ Sgns → m.call b (stepOf p) ≡ local b p (say ev.Moved 0 false 0) (withSource Sdys P) (b .standing)
+    as-moved : P .source ≡ Sgns → m.call b (stepOf p) ≡ local b p (say ev.Moved 0 false 0) (withSource Sdys P) (b
+        .standing)
     as-moved h = as-sends b B ∙ rw (h, offered) (touched (say ev.Moved 0 false 0) (withSource Sdys P))
 
-    as-ready : P .source ≡ Sdys → m.call b (stepOf p) ≡ follow (atnOf b) b p (let w = m.viewAt (place p) (lines b) b in cond (lines b .nrfd) (stay w) (cond (lines b .ndac) (put Data v e w) (noacc Data v e w)))
+    as-ready : P .source ≡ Sdys → m.call b (stepOf p) ≡ follow (atnOf b) b p (let w = m.viewAt (place p) (lines b) b in
+        cond (lines b .nrfd) (stay w) (cond (lines b .ndac) (put Data v e w) (noacc Data v e w)))
     as-ready h = as-sends b B ∙ rw (h, offered, its-kind) refl
 
-    as-held-up : P .source ≡ Sdys → lines b .nrfd ≡ true → m.call b (stepOf p) ≡ local b p (say ev.None 0 false 0) P (b .standing)
+    as-held-up : P .source ≡ Sdys → lines b .nrfd ≡ true
+        → m.call b (stepOf p) ≡ local b p (say ev.None 0 false 0) P (b .standing)
     as-held-up h nr = as-ready h ∙ rw nr (touched (say ev.None 0 false 0) P)
 
     -- nobody holds NRFD: the listener is ready, and holds NDAC
     some-ndac : lines b .nrfd ≡ false → lines b .ndac ≡ true
     some-ndac nr = some-seen (b .count) drivesNdac (b .parties) refl (B .inv .pre .tail) w
-        (ready-holds-ndac (here b w .acceptor) (some-none (b .count) drivesNrfd (b .parties) refl (B .inv .pre .tail) nr w) (O .part))
+        (ready-holds-ndac (here b w .acceptor)
+        (some-none (b .count) drivesNrfd (b .parties) refl (B .inv .pre .tail) nr w) (O .part))
 
     abbrev up : Party
     up = withSource Strs (withHeld Empty P)
 
-    as-put : P .source ≡ Sdys → lines b .nrfd ≡ false → m.call b (stepOf p) ≡ local b p (say ev.Data v e 0) up (Byte (place p) Data v e)
-    as-put h nr = as-ready h ∙ rw (nr, some-ndac nr) (touch-local b (B .inv) p (inn b B) (say ev.Data v e 0) up (Byte (place p) Data v e) (rw (set-here b (B .inv) p (inn b B) up, own-source b B) refl))
+    as-put : P .source ≡ Sdys → lines b .nrfd ≡ false
+        → m.call b (stepOf p) ≡ local b p (say ev.Data v e 0) up (Byte (place p) Data v e)
+    as-put h nr = as-ready h ∙ rw (nr, some-ndac nr) (touch-local b (B .inv) p (inn b B) (say ev.Data v e 0) up
+        (Byte (place p) Data v e) (rw (set-here b (B .inv) p (inn b B) up, own-source b B) refl))
 
     waits-talker : (Put b p × Sent (m.call b (stepOf p) .bus)) ⊎ Waited b p
     waits-talker = go (O .source)
@@ -287,32 +305,41 @@ module _ (n p w v : ℕ) (e : Bool) where
         in-sgns h z = let r : 0 + 1 ≤ 0 = rw (B .aids, h) at (z p) in omega arith
 
         by-nrfd : lines b .nrfd ≡ true → ((j : ℕ) → rank (here b j) ≤ 0) → ⊥
-        by-nrfd nr z = let r = some-true (b .count) drivesNrfd (b .parties) nr in let y = r .1 in let x = no-rank-no-nrfd (here b (r .0) .acceptor) (let u = z (r .0) in omega arith) in no (cc)
+        by-nrfd nr z = let r = some-true (b .count) drivesNrfd (b .parties) nr in let y = r .1 in
+            let x = no-rank-no-nrfd (here b (r .0) .acceptor) (let u = z (r .0) in omega arith) in no (cc)
 
-        ready : P .source ≡ Sdys → (x : Bool) → lines b .nrfd ≡ x → (Put b p × Sent (m.call b (stepOf p) .bus)) ⊎ Waited b p
-        ready h true nr = inr (waits-own (say ev.None 0 false 0) (P .source) (as-held-up h nr) (settled-sdys (atnOf b) P (own-source b B) h) (by-nrfd nr))
+        ready : P .source ≡ Sdys → (x : Bool) → lines b .nrfd ≡ x
+            → (Put b p × Sent (m.call b (stepOf p) .bus)) ⊎ Waited b p
+        ready h true nr = inr (waits-own (say ev.None 0 false 0) (P .source) (as-held-up h nr)
+            (settled-sdys (atnOf b) P (own-source b B) h) (by-nrfd nr))
         ready h false nr = let q = as-put h nr in inl (
           (refl, ap (λ (a : Answer). a .event) q, ap (λ (a : Answer). a .byte) q, ap (λ (a : Answer). a .end) q),
           record {
             base = base-own b B (say ev.Data v e 0) up (Byte (place p) Data v e) q refl refl refl;
             byte = ap (λ (a : Answer). a .bus .standing) q;
-            source = ap (λ (y : Party). y .source) (own-place b B (say ev.Data v e 0) up (Byte (place p) Data v e) q refl refl refl) ∙ settled-keeps (atnOf b) up refl (own-source b B);
+            source = ap (λ (y : Party). y .source)
+                (own-place b B (say ev.Data v e 0) up (Byte (place p) Data v e) q refl refl refl)
+                ∙ settled-keeps (atnOf b) up refl (own-source b B);
           },
         )
 
         go : (P .source ≡ Sgns) ⊎ (P .source ≡ Sdys) → (Put b p × Sent (m.call b (stepOf p) .bus)) ⊎ Waited b p
-        go (inl h) = inr (waits-own (say ev.Moved 0 false 0) Sdys (as-moved h) (settled-sdys (atnOf b) (withSource Sdys P) (own-source b B) refl) (in-sgns h))
+        go (inl h) = inr (waits-own (say ev.Moved 0 false 0) Sdys (as-moved h)
+            (settled-sdys (atnOf b) (withSource Sdys P) (own-source b B) refl) (in-sgns h))
         go (inr h) = ready h (lines b .nrfd) refl
 
     -- any step while the byte waits
     pub waits-step : (i : ℕ) → i < n → (Put b i × Sent (m.call b (stepOf i) .bus)) ⊎ Waited b i
     waits-step i l = test (eqb i p)
-        (λ h. subst (λ (j : ℕ). (Put b j × Sent (m.call b (stepOf j) .bus)) ⊎ Waited b j) (sym (eqb-true i p h)) waits-talker)
+        (λ h. subst (λ (j : ℕ). (Put b j × Sent (m.call b (stepOf j) .bus)) ⊎ Waited b j) (sym (eqb-true i p h))
+        waits-talker)
         (λ h. inr (waits-other i l (eqb-false i p h)))
 
-  -- The byte stands. What a step then comes to: it ends; or it stands on, is neither ended nor broken off, and the party wants a turn less.
+  -- The byte stands. What a step then comes to: it ends; or it stands on, is neither ended nor broken off, and the
+  -- party wants a turn less.
   abbrev pub End : Bus → ℕ → Type 0
-  End b i = (i ≡ p) × (m.call b (stepOf i) .event ≡ ev.Ended) × (m.call b (stepOf i) .byte ≡ v) × (m.call b (stepOf i) .end ≡ e)
+  End b i = (i ≡ p) × (m.call b (stepOf i) .event ≡ ev.Ended) × (m.call b (stepOf i) .byte ≡ v)
+      × (m.call b (stepOf i) .end ≡ e)
 
   abbrev pub Keep : Bus → ℕ → Type 0
   Keep b i = (isEnd (m.call b (stepOf i) .event) ≡ false) × (m.call b (stepOf i) .broken ≡ 0)
@@ -332,7 +359,12 @@ module _ (n p w v : ℕ) (e : Bool) where
 
     stands-other : (i : ℕ) → i < n → (i ≡ p → ⊥) → Stood b i
     stands-other i l ne = record {
-      keeps = (ap isEnd (event-of b (BS .inv) i A) ∙ tock-event (m.viewAt (place i) (lines b) b) (BS .quiet) dav up-here (here b i .acceptor) calm, broken-of b (BS .inv) i A);
+      keeps = (
+        ap isEnd (event-of b (BS .inv) i A)
+            ∙ tock-event (m.viewAt (place i) (lines b) b) (BS .quiet) dav up-here (here b i .acceptor) calm,
+        broken-of b
+            (BS .inv) i A,
+      );
       sent = record {
         base = base-other b BS i l ne;
         byte = standing-kept b (BS .inv) i A ∙ S .byte;
@@ -340,7 +372,8 @@ module _ (n p w v : ℕ) (e : Bool) where
       };
       lowers = record {
         other = λ j nj. ap left (other-kept b (BS .inv) i A j nj);
-        own = rw (own-next b (BS .inv) i A) (tock-left (m.viewAt (place i) (lines b) b) (BS .quiet) dav up-here (here b i .acceptor) refl calm);
+        own = rw (own-next b (BS .inv) i A) (tock-left (m.viewAt (place i) (lines b) b) (BS .quiet) dav up-here
+            (here b i .acceptor) refl calm);
       };
       held-up = λ h. absurd (ne h);
     }
@@ -354,21 +387,32 @@ module _ (n p w v : ℕ) (e : Bool) where
         calm : here b i .acceptor ≡ Anrs → ⊥
         calm = BS .inv .pre .noAnrs up-here i
 
-    as-sent : m.call b (stepOf p) ≡ follow (atnOf b) b p (cond (lines b .ndac) (stay (m.viewAt (place p) (lines b) b)) (ended (b .standing) (m.viewAt (place p) (lines b) b)))
+    as-sent : m.call b (stepOf p) ≡ follow (atnOf b) b p (cond (lines b .ndac) (stay (m.viewAt (place p) (lines b) b))
+        (ended (b .standing) (m.viewAt (place p) (lines b) b)))
     as-sent = as-sends b BS ∙ rw (S .source) refl
 
-    as-standing : lines b .ndac ≡ true → m.call b (stepOf p) ≡ local b p (say ev.None 0 false 0) (here b p) (b .standing)
-    as-standing nd = as-sent ∙ rw nd (touch-local b (BS .inv) p (inn b BS) (say ev.None 0 false 0) (here b p) (b .standing)
+    as-standing : lines b .ndac ≡ true → m.call b (stepOf p) ≡ local b p (say ev.None 0 false 0) (here b p) (b
+        .standing)
+    as-standing nd = as-sent ∙ rw nd (touch-local b (BS .inv) p (inn b BS) (say ev.None 0 false 0) (here b p)
+        (b .standing)
         (rw (S .byte) (rw (set-here b (BS .inv) p (inn b BS) (here b p), own-source b BS) refl)))
 
-    as-ended : lines b .ndac ≡ false → m.call b (stepOf p) ≡ follow (atnOf b) b p (ended (Byte (place p) Data v e) (m.viewAt (place p) (lines b) b))
+    as-ended : lines b .ndac ≡ false → m.call b (stepOf p) ≡ follow (atnOf b) b p (ended (Byte (place p) Data v e)
+        (m.viewAt (place p) (lines b) b))
     as-ended nd = as-sent ∙ rw (nd, S .byte) refl
 
     stands-talker : (x : Bool) → lines b .ndac ≡ x → End b p ⊎ Stood b p
     stands-talker true nd = inr (record {
       keeps = (ap (λ (a : Answer). isEnd (a .event)) q, ap (λ (a : Answer). a .broken) q);
-      sent = record { base = Bc; byte = ap (λ (a : Answer). a .bus .standing) q ∙ S .byte; source = ap (λ (y : Party). y .source) own ∙ settled-keeps (atnOf b) (here b p) (S .source) (own-source b BS) };
-      lowers = record { other = λ j nj. ap left (own-other b BS (say ev.None 0 false 0) (here b p) (b .standing) q refl refl refl j nj); own = rw (Bc .aids) (omega arith) };
+      sent = record {
+        base = Bc;
+        byte = ap (λ (a : Answer). a .bus .standing) q ∙ S .byte;
+        source = ap (λ (y : Party). y .source) own ∙ settled-keeps (atnOf b) (here b p) (S .source) (own-source b BS);
+      };
+      lowers = record {
+        other = λ j nj. ap left (own-other b BS (say ev.None 0 false 0) (here b p) (b .standing) q refl refl refl j nj);
+        own = rw (Bc .aids) (omega arith);
+      };
       held-up = λ _. by-ndac;
     })
       where
@@ -382,8 +426,10 @@ module _ (n p w v : ℕ) (e : Bool) where
         own = own-place b BS (say ev.None 0 false 0) (here b p) (b .standing) q refl refl refl
 
         by-ndac : ((j : ℕ) → left (here b j) ≤ 0) → ⊥
-        by-ndac z = let r = some-true (b .count) drivesNdac (b .parties) nd in let y = r .1 in let x = none-left-no-ndac (here b (r .0) .acceptor) (z (r .0)) in no (cc)
-    stands-talker false nd = let q = as-ended nd in inl (refl, ap (λ (a : Answer). a .event) q, ap (λ (a : Answer). a .byte) q, ap (λ (a : Answer). a .end) q)
+        by-ndac z = let r = some-true (b .count) drivesNdac (b .parties) nd in let y = r .1 in
+            let x = none-left-no-ndac (here b (r .0) .acceptor) (z (r .0)) in no (cc)
+    stands-talker false nd = let q = as-ended nd in
+        inl (refl, ap (λ (a : Answer). a .event) q, ap (λ (a : Answer). a .byte) q, ap (λ (a : Answer). a .end) q)
 
     -- any step while the byte stands
     pub stands-step : (i : ℕ) → i < n → End b i ⊎ Stood b i

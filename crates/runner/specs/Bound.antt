@@ -1,6 +1,7 @@
--- The bound of a run (document 02, Q-1): "Take a bus of n parties that an accepted build and calls led to, with ATN false, exactly one talker, not
--- polled, in SGNS with a held byte. At least one party listens and every data-in is empty. A single run from there of at least 7 times n turns ends
--- that byte within its first 7 times n." Puts, standing and ending are demand 3's (crates/bus/specs/Delivery.antt).
+-- The bound of a run (document 02, Q-1): "Take a bus of n parties that an accepted build and calls led to, with ATN
+-- false, exactly one talker, not polled, in SGNS with a held byte. At least one party listens and every data-in is
+-- empty. A single run from there of at least 7 times n turns ends that byte within its first 7 times n." Puts, standing
+-- and ending are demand 3's (crates/bus/specs/Delivery.antt).
 -- Assumes nothing.
 use Prim.Native.Nat.{ℕ, _*_, _≤_, _<_}
 use mathlib.Core.Path.{_≡_}
@@ -17,7 +18,8 @@ use Rattle.runner.specs.Waiting.{TieOrder, byPlace, Orders}
 use Rattle.turn_laws.specs.Turns.{stepOf, steps}
 use Rattle.runner.specs.Runner.{turnsOf}
 
--- Party p talks, with the byte v, END e, held, and party w listens. That nobody else talks need not be asked: on these buses nobody does.
+-- Party p talks, with the byte v, END e, held, and party w listens. That nobody else talks need not be asked: on these
+-- buses nobody does.
 pub record Offered (b : Bus) (p w v : ℕ) (e : Bool) : Type 0 where
   pub there : p < b .count
   pub quiet : lines b .atn ≡ false
@@ -47,13 +49,17 @@ pub record EndsWithin (b : Bus) (cs : List Call) (p v : ℕ) (e : Bool) (m : ℕ
 
 -- A single run of at least 7 times n turns, from the bus b.
 abbrev pub EndsSoon : TieOrder → Bus → Type 0
-EndsSoon tie b = (p w v : ℕ) (e : Bool) → Offered b p w v e → (t : ℕ) → 7 * b .count ≤ t → EndsWithin b (steps (turnsOf tie b t)) p v e (7 * b .count)
+EndsSoon tie b = (p w v : ℕ) (e : Bool) → Offered b p w v e → (t : ℕ) → 7 * b .count ≤ t
+    → EndsWithin b (steps (turnsOf tie b t)) p v e (7 * b .count)
 
 -- From every bus that an accepted build and any calls lead to, whatever order the ties go by.
 abbrev pub Bound : Type 0
-Bound = (names : List Name) (system : Place) → buildExtended names system .refusal ≡ ruling.Accepted → (cs : List Call) (tie : TieOrder)
-    → Orders tie (m.run (buildExtended names system .bus) cs .count) → EndsSoon tie (m.run (buildExtended names system .bus) cs)
+Bound = (names : List Name) (system : Place) → buildExtended names system .refusal ≡ ruling.Accepted
+    → (cs : List Call) (tie : TieOrder)
+    → Orders tie (m.run (buildExtended names system .bus) cs .count)
+    → EndsSoon tie (m.run (buildExtended names system .bus) cs)
 
 -- "ties to the lowest party number"
 abbrev pub BoundByPlace : Type 0
-BoundByPlace = (names : List Name) (system : Place) → buildExtended names system .refusal ≡ ruling.Accepted → (cs : List Call) → EndsSoon byPlace (m.run (buildExtended names system .bus) cs)
+BoundByPlace = (names : List Name) (system : Place) → buildExtended names system .refusal ≡ ruling.Accepted
+    → (cs : List Call) → EndsSoon byPlace (m.run (buildExtended names system .bus) cs)

@@ -1,4 +1,4 @@
--- Worked examples of the giveTurns, computed from the definitions.
+-- Worked examples of the runner, computed from the definitions.
 -- Assumes nothing.
 use Prim.Native.Nat.{ℕ}
 use mathlib.Core.Path.{_≡_}
@@ -25,15 +25,18 @@ use Rattle.runner.specs.Lists.{Act, call, run, acted}
 
 -- Of document 01's script the calls before the first step: party 0 talks, party 1 listens, 41 with END is held.
 abbrev before : List Act
-before = call (call-of.Of (place 0) (act-of.TalkOnly 1)) ∷ call (call-of.Of (place 1) (act-of.ListenOnly 1)) ∷ call (call-of.Of (place 0) (act-of.Write 65 1)) ∷ []
+before = call (call-of.Of (place 0) (act-of.TalkOnly 1)) ∷ call (call-of.Of (place 1) (act-of.ListenOnly 1)) ∷ call
+    (call-of.Of (place 0) (act-of.Write 65 1)) ∷ []
 
 abbrev pub after : List Act → Bus
 after xs = acted (λ b. byPlace) (build (5 ∷ 6 ∷ []) (place 0) .bus) xs
 
 -- Party 1 has taken a byte that was then broken off, and 41 waits: it has three turns to go before it is ready.
 abbrev pub slow : List Act
-slow = call (call-of.Of (place 0) (act-of.TalkOnly 1)) ∷ call (call-of.Of (place 1) (act-of.ListenOnly 1)) ∷ call (call-of.Of (place 0) (act-of.Write 64 0)) ∷ run 4
-    ∷ call (call-of.Of (place 0) (act-of.TalkOnly 0)) ∷ call (call-of.Of (place 1) act-of.Read) ∷ call (call-of.Of (place 0) (act-of.TalkOnly 1)) ∷ call (call-of.Of (place 0) (act-of.Write 65 1)) ∷ []
+slow = call (call-of.Of (place 0) (act-of.TalkOnly 1)) ∷ call (call-of.Of (place 1) (act-of.ListenOnly 1)) ∷ call
+    (call-of.Of (place 0) (act-of.Write 64 0)) ∷ run 4
+    ∷ call (call-of.Of (place 0) (act-of.TalkOnly 0)) ∷ call (call-of.Of (place 1) act-of.Read) ∷ call
+    (call-of.Of (place 0) (act-of.TalkOnly 1)) ∷ call (call-of.Of (place 0) (act-of.Write 65 1)) ∷ []
 
 -- How many bytes end in the first t turns of a run.
 abbrev ended : List Act → ℕ → ℕ
@@ -50,10 +53,13 @@ pub record Examples : Type 0 where
   pub fromTheTop : turns (λ x y. ltb y x) 3 7 ≡ (2 ∷ 1 ∷ 0 ∷ 2 ∷ 1 ∷ 0 ∷ 2 ∷ [])
   -- document 01's script with its seven steps as a run of seven turns: the byte has ended, and 41 is read
   pub script : giveTurns byPlace (after before) 7 .counts ≡ (4 ∷ 3 ∷ replicate 13 0)
-  pub scriptEnds : reported (m.call (giveTurns byPlace (after before) 7 .bus) (call-of.Of (place 1) act-of.Read)) ≡ 41-is-read
-  -- five times n turns are not always enough to end a byte: here the bound's premises hold, n is 2, and the eleventh turn ends it
+  pub scriptEnds : reported (m.call (giveTurns byPlace (after before) 7 .bus) (call-of.Of (place 1) act-of.Read))
+      ≡ 41-is-read
+  -- five times n turns are not always enough to end a byte: here the bound's premises hold, n is 2, and the eleventh
+  -- turn ends it
   pub premises : Offered (after slow) 0 1 65 true
   pub notInFiveRounds : ended slow 10 ≡ 0
   pub inOneTurnMore : ended slow 11 ≡ 1
   -- "a bus of no parties is refused with 1, all counts 0"
-  pub nobody : giveTurns byPlace noParties 65535 ≡ record { refusal = ruling.NoParty; counts = replicate 15 0; bus = noParties }
+  pub nobody : giveTurns byPlace noParties 65535
+      ≡ record { refusal = ruling.NoParty; counts = replicate 15 0; bus = noParties }

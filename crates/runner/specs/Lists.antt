@@ -37,5 +37,6 @@ StandsForSteps = (tie : Bus → TieOrder) (b : Bus) (xs : List Act) → acted ti
 
 -- Demand 3 for every list of calls and runs from a bus that an accepted build gave.
 abbrev pub DeliveryWithRuns : Type 0
-DeliveryWithRuns = (tie : Bus → TieOrder) (names : List Name) (system : Place) → buildExtended names system .refusal ≡ ruling.Accepted
+DeliveryWithRuns = (tie : Bus → TieOrder) (names : List Name) (system : Place)
+    → buildExtended names system .refusal ≡ ruling.Accepted
     → (xs : List Act) → Delivered (buildExtended names system .bus) (expanded tie (buildExtended names system .bus) xs)

@@ -17,8 +17,8 @@ use Rattle.runner.specs.Types.ruling
 use Rattle.runner.specs.Types.call-of
 use Rattle.runner.specs.Waiting.{TieOrder, turns}
 
--- The places that have the turns of a run of t turns ("0 to 65,535"; here any number). A bus of no parties has none to give them to; a bus value with more than
--- fifteen, which no build gives, has fifteen.
+-- The places that have the turns of a run of t turns ("0 to 65,535"; here any number). A bus of no parties has none to
+-- give them to; a bus value with more than fifteen, which no build gives, has fifteen.
 abbrev pub turnsOf : TieOrder → Bus → ℕ → List ℕ
 turnsOf tie b t = cond (eqb (b .count) 0) [] (turns tie (within (b .count)) t)
 
@@ -31,7 +31,8 @@ counted counts (x ∷ xs) = counted (set counts x (getD counts x 0 + 1)) xs
 abbrev pub refusalOf : Bus → Refusal
 refusalOf b = cond (eqb (b .count) 0) ruling.NoParty ruling.Accepted
 
--- The whole answer of a run, and the bus after it. The refused run has no turns: its bus is unchanged, and its counts are all 0.
+-- The whole answer of a run, and the bus after it. The refused run has no turns: its bus is unchanged, and its counts
+-- are all 0.
 abbrev pub giveTurns : TieOrder → Bus → ℕ → Given
 giveTurns tie b t = record {
   refusal = refusalOf b;
@@ -46,4 +47,6 @@ isStepOf k call-of.Lines = false
 isStepOf k call-of.Drivers = false
 
 abbrev pub Counts : Type 0
-Counts = (tie : TieOrder) (b : Bus) (t k : ℕ) → k < 15 → getD (giveTurns tie b t .counts) k 0 ≡ tally (λ x. one (isStepOf k (x .call))) (history b (steps (turnsOf tie b t)))
+Counts = (tie : TieOrder) (b : Bus) (t k : ℕ) → k < 15
+    → getD (giveTurns tie b t .counts) k 0
+    ≡ tally (λ x. one (isStepOf k (x .call))) (history b (steps (turnsOf tie b t)))

@@ -1,6 +1,6 @@
--- Who has the next turn (document 02, Q-1): "A runner steps the party that has waited longest for a turn, ties to the lowest"
--- "party number". A wait is how many turns others have had since a party's own last one, or since the run began: `ws` has one
--- for each place.
+-- Who has the next turn (document 02, Q-1): "A runner steps the party that has waited longest for a turn, ties to the
+-- lowest" "party number". A wait is how many turns others have had since a party's own last one, or since the run
+-- began: `ws` has one for each place.
 -- Assumes nothing.
 use Prim.Native.Nat.{ℕ, zero, suc, _≤_, _<_, _%_}
 use mathlib.Core.Path.{_≡_}
@@ -52,7 +52,8 @@ turnsFrom tie (suc t) ws = longestWaiting tie ws ∷ turnsFrom tie t (waited (lo
 abbrev pub turns : TieOrder → ℕ → ℕ → List ℕ
 turns tie n t = turnsFrom tie t (replicate n 0)
 
--- Tie orders, and what they come to: the longest waiting is well found, and from equal waiting the turns go round robin, through the places in the tie order, over and over.
+-- Tie orders, and what they come to: the longest waiting is well found, and from equal waiting the turns go round
+-- robin, through the places in the tie order, over and over.
 
 -- A tie order puts the first n places one after the other.
 pub record Orders (tie : TieOrder) (n : ℕ) : Type 0 where
@@ -62,7 +63,8 @@ pub record Orders (tie : TieOrder) (n : ℕ) : Type 0 where
 
 -- Whatever the waits, the definition finds the place that has waited longest.
 abbrev pub LongestFound : Type 0
-LongestFound = (tie : TieOrder) (ws : List ℕ) → Orders tie (length ws) → 0 < length ws → WaitedLongest tie ws (longestWaiting tie ws)
+LongestFound = (tie : TieOrder) (ws : List ℕ) → Orders tie (length ws) → 0 < length ws
+    → WaitedLongest tie ws (longestWaiting tie ws)
 
 abbrev pub insert : TieOrder → ℕ → List ℕ → List ℕ
 insert tie x [] = x ∷ []

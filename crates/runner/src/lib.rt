@@ -15,7 +15,8 @@ pub struct Given {
     pub bus: Bus,
 }
 
-// The place of turn t of n parties, round robin from place 0. All parties wait equally long at the start, and the proof has that this one has then waited longest.
+// The place of turn t of n parties, round robin from place 0. All parties wait equally long at the start, and the proof
+// has that this one has then waited longest.
 fn place_of_turn(t: u16, n: usize) -> usize
     requires { ⌜ 0 < n ⌝ }
     ensures { λ r. ⌜ r ≡ t % n ⌝ }

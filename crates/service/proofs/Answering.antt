@@ -1,4 +1,5 @@
--- The second request bit of one request: it asks, waits through polls, is answered by a status byte, and asks no more. Bit 64 of live is clear.
+-- The second request bit of one request: it asks, waits through polls, is answered by a status byte, and asks no more.
+-- Bit 64 of live is clear.
 -- Assumes nothing.
 use mathlib.Core.Path.{_≡_, refl}
 use mathlib.Core.Bool.{Bool, true, false, cond}
@@ -18,7 +19,8 @@ bit-settled polled q = refl
 pub bit-asks : (live : ℕ) (on : Bool) → rsv live ≡ false → asks live on ≡ on
 bit-asks live on h = rw h
 
--- switched on outside a poll it is on SRQ; it goes off SRQ when a poll begins, and is in APRS from then on, in polls and between them
+-- switched on outside a poll it is on SRQ; it goes off SRQ when a poll begins, and is in APRS from then on, in polls
+-- and between them
 pub nprs-asks : serviceSettled Nprs true false ≡ Srqs
 nprs-asks = refl
 

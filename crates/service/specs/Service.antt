@@ -11,7 +11,8 @@ use Rattle.service.specs.declared.Request.{Request}
 abbrev pub rsv : ℕ → Bool
 rsv live = eqb (live / 64 % 2) 1
 
--- "NPRS to SRQS if rsv and not polled; SRQS to APRS if polled, to NPRS if neither rsv nor polled; APRS to NPRS if neither rsv nor polled."
+-- "NPRS to SRQS if rsv and not polled; SRQS to APRS if polled, to NPRS if neither rsv nor polled; APRS to NPRS if
+-- neither rsv nor polled."
 abbrev pub serviceSettled : Service → Bool → Bool → Service
 serviceSettled Nprs r polled = cond (r && not polled) Srqs Nprs
 serviceSettled Srqs r polled = cond polled Aprs (cond r Srqs Nprs)

@@ -1,7 +1,9 @@
-// The request for service: the poll register, the second request bit and the service state; how it settles, and what a status byte leaves of it.
+// The request for service: the poll register, the second request bit and the service state; how it settles, and what a
+// status byte leaves of it.
 ghost use mathlib.Core.Path.{_≡_};
 ghost use Prim.Native.Nat.{_≤_};
-ghost use Rattle.service.specs.Service.{aprsBit, status, serviceSettled, liveSettled, requestSettled, withSaved, withRsv2, rsv2Kept, reported};
+ghost use Rattle.service.specs.Service.{aprsBit, status, serviceSettled, liveSettled, requestSettled, withSaved};
+ghost use Rattle.service.specs.Service.{withRsv2, rsv2Kept, reported};
 
 // The service request.
 pub enum Service {

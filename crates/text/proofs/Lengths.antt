@@ -1,4 +1,5 @@
--- A line has at most 34 bytes: 6 for the number, 3 for the refusal, 8 for the word, 3 for the byte, 2 for END, 6 for each count.
+-- A line has at most 34 bytes: 6 for the number, 3 for the refusal, 8 for the word, 3 for the byte, 2 for END, 6 for
+-- each count.
 -- Assumes nothing.
 use mathlib.Core.Path.{_≡_}
 use mathlib.Core.Bool.{Bool, true, false, cond}
@@ -17,7 +18,9 @@ use Rattle.effect.specs.declared.Refusal.the-variants as R
 use Rattle.effect.specs.Calls.{refusalNumber}
 use Rattle.text.specs.Text.{digitOf, decimalOf, numberText, byteText, headText, eventText, countsText, lineOf}
 
-at-most-five : (a b c d e : ℕ) (p q r s : Bool) → length (cond p (a ∷ []) (cond q (b ∷ a ∷ []) (cond r (c ∷ b ∷ a ∷ []) (cond s (d ∷ c ∷ b ∷ a ∷ []) (e ∷ d ∷ c ∷ b ∷ a ∷ []))))) ≤ 5
+at-most-five : (a b c d e : ℕ) (p q r s : Bool)
+    → length (cond p (a ∷ [])
+    (cond q (b ∷ a ∷ []) (cond r (c ∷ b ∷ a ∷ []) (cond s (d ∷ c ∷ b ∷ a ∷ []) (e ∷ d ∷ c ∷ b ∷ a ∷ []))))) ≤ 5
 at-most-five a b c d e true q r s = lit≤ tt
 at-most-five a b c d e false true r s = lit≤ tt
 at-most-five a b c d e false false true s = lit≤ tt
@@ -26,7 +29,8 @@ at-most-five a b c d e false false false false = lit≤ tt
 
 decimal-length : (n : ℕ) → length (decimalOf n) ≤ 5
 unfolding decimalOf
-decimal-length n = at-most-five (digitOf n) (digitOf (n / 10)) (digitOf (n / 100)) (digitOf (n / 1000)) (digitOf (n / 10000)) (ltb n 10) (ltb n 100) (ltb n 1000) (ltb n 10000)
+decimal-length n = at-most-five (digitOf n) (digitOf (n / 10)) (digitOf (n / 100)) (digitOf (n / 1000))
+    (digitOf (n / 10000)) (ltb n 10) (ltb n 100) (ltb n 1000) (ltb n 10000)
 
 number-length : (n k : ℕ) → length (numberText n k) ≡ length (decimalOf n) + 1
 unfolding numberText
@@ -75,11 +79,24 @@ byte-length false b = lit≤ tt
 
 head-length : (n : ℕ) (r : Refusal) → length (headText n r) ≤ 9
 unfolding headText
-head-length n r = omega (arith, length-append (numberText n 32) (numberText (refusalNumber r) 32), number-length n 32, number-length (refusalNumber r) 32, decimal-length n, refusal-length r)
+head-length n r = omega (
+  arith,
+  length-append (numberText n 32) (numberText (refusalNumber r) 32),
+  number-length n 32,
+  number-length (refusalNumber r) 32,
+  decimal-length n,
+  refusal-length r,
+)
 
 event-length : (e : Event) (b : ℕ) → length (eventText e b) ≤ 11
 unfolding eventText
-event-length e b = omega (arith, length-append (wordText e) (byteText (hasByte e) b), word-length e, byte-length (hasByte e) b)
+event-length e b = omega (
+  arith,
+  length-append (wordText e) (byteText (hasByte e) b),
+  word-length e,
+  byte-length
+      (hasByte e) b,
+)
 
 counts-length : (end : Bool) (d k : ℕ) → length (countsText end d k) ≤ 14
 unfolding countsText
@@ -101,7 +118,8 @@ unfolding lineOf
 line-length n a =
     omega (
       arith,
-      length-append (headText n (a .refusal) ++ eventText (a .event) (a .byte)) (countsText (a .end) (a .dropped) (a .broken)),
+      length-append (headText n (a .refusal) ++ eventText (a .event) (a .byte))
+          (countsText (a .end) (a .dropped) (a .broken)),
       length-append (headText n (a .refusal)) (eventText (a .event) (a .byte)),
       head-length n (a .refusal),
       event-length (a .event) (a .byte),

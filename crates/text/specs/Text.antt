@@ -1,5 +1,6 @@
--- The line of an answer, as ASCII codes. "prints per record: number from 1, refusal, event, byte in two lower-case hexadecimal digits (-- if the event has none),
--- END, dropped, broken" (document 01, "The bus script"); a space between two, and a newline at the end.
+-- The line of an answer, as ASCII codes. "prints per record: number from 1, refusal, event, byte in two lower-case
+-- hexadecimal digits (-- if the event has none), END, dropped, broken" (document 01, "The bus script"); a space between
+-- two, and a newline at the end.
 -- Assumes nothing.
 use Prim.Native.Nat.{ℕ, _+_, _/_, _%_, _≤_, _<_}
 use mathlib.Core.Path.{_≡_}
@@ -15,13 +16,15 @@ use Rattle.effect.specs.declared.Refusal.{Refusal}
 use Rattle.effect.specs.Calls.{refusalNumber}
 use Rattle.bus.specs.declared.Answer.{Answer}
 
--- What writing a text at a place does: after is before with the text stored from that place on, and r is the place behind it, still inside the buffer.
+-- What writing a text at a place does: after is before with the text stored from that place on, and r is the place
+-- behind it, still inside the buffer.
 pub record Wrote (before : List ℕ) (at : ℕ) (text after : List ℕ) (r : ℕ) : Type 0 where
   pub stored : after ≡ sets before at text
   pub next : r ≡ at + length text
   pub fits : r ≤ length after
 
--- A line where there are 34 bytes from the place on, into which every line fits; without them the buffer and the place stay as they were.
+-- A line where there are 34 bytes from the place on, into which every line fits; without them the buffer and the place
+-- stay as they were.
 pub record Put (before : List ℕ) (at : ℕ) (text after : List ℕ) (r : ℕ) : Type 0 where
   pub written : at + 34 ≤ length before → Wrote before at text after r
   pub kept : length before < at + 34 → (after ≡ before) × (r ≡ at)

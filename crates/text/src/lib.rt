@@ -3,7 +3,8 @@
 ghost use mathlib.Core.Path.{_≡_};
 ghost use Prim.Native.Nat.{_+_, _<_, _≤_, _/_, _%_};
 ghost use lib.ListN.{length};
-ghost use Rattle.text.specs.Text.{Wrote, Put, digitOf, hexOf, decimalOf, numberText, byteText, headText, eventText, countsText, lineOf};
+ghost use Rattle.text.specs.Text.{Wrote, Put, digitOf, hexOf, decimalOf, numberText, byteText, headText};
+ghost use Rattle.text.specs.Text.{eventText, countsText, lineOf};
 ghost use Rattle.event.specs.Words.{wordText};
 use bus::Answer;
 use effect::Refusal;
@@ -146,7 +147,8 @@ fn put_parts(n: usize, a: Answer, out: &mut [u8], at: usize) -> usize
     put_counts(a.end, a.dropped, a.broken, out, q)
 }
 
-// Writes the line of record n with answer a at a place and gives the place behind it. Without 34 bytes, which hold any line, it does nothing.
+// Writes the line of record n with answer a at a place and gives the place behind it. Without 34 bytes, which hold any
+// line, it does nothing.
 pub fn put_line(n: usize, a: Answer, out: &mut [u8], at: usize) -> usize
     ensures { λ r. ⌜ Put (now (out .entry)) at (lineOf n a) (now (out .exit)) r ⌝ }
 {

@@ -35,7 +35,8 @@ use Rattle.bus.specs.Types.after
 use Rattle.bus.specs.Types.ruling
 use Rattle.turn_laws.specs.Turns.{stepOf}
 
-each-set : (n : ℕ) (f : Party → Party) (ps : List Party) (i : ℕ) (q : Party) → i < n → ((j : ℕ) → f (at ps j) ≡ at ps j) → each n f (set ps i q) ≡ set ps i (f q)
+each-set : (n : ℕ) (f : Party → Party) (ps : List Party) (i : ℕ) (q : Party) → i < n → ((j : ℕ) → f (at ps j) ≡ at ps j)
+    → each n f (set ps i q) ≡ set ps i (f q)
 each-set zero f ps i q l h = absurd (not-suc-le-zero l)
 each-set (suc n) f [] i q l h = refl
 each-set (suc n) f (p ∷ ps) zero q l h = rw (each-still n f ps (λ j. h (suc j))) refl
@@ -43,25 +44,33 @@ each-set (suc n) f (p ∷ ps) (suc i) q l h = rw (h 0, each-set n f ps i q (le-o
 
 -- the answer of a call that changes party i alone, and may change what stands
 abbrev pub local : Bus → ℕ → Said → Party → Standing → Answer
-local b i s q st = answered false s (record { parties = set (b .parties) i (settled (atnOf b) q); count = b .count; system = b .system; standing = st })
+local b i s q st = answered false s (record
+    { parties = set (b .parties) i (settled (atnOf b) q); count = b .count; system = b .system; standing = st })
 
 module _ (b : Bus) (I : Inv b) (i : ℕ) (l : i < b .count) where
   room : i < length (b .parties)
   room = let z = I .size in let s = I .small in omega arith
 
-  pub touch-local : (s : Said) (q : Party) (st : Standing) → deserted (atnOf b) (set (b .parties) i q) st ≡ false → settle (atnOf b) b i (does s q st) ≡ local b i s q st
+  pub touch-local : (s : Said) (q : Party) (st : Standing) → deserted (atnOf b) (set (b .parties) i q) st ≡ false
+      → settle (atnOf b) b i (does s q st) ≡ local b i s q st
   touch-local s q st ok = rw (ok, each-set (b .count) (settled (atnOf b)) (b .parties) i q l (I .still)) refl
 
   pub set-here : (q : Party) → at (set (b .parties) i q) i ≡ q
   set-here q = getD-set-same (b .parties) i q idle room
 
   -- what stands is not deserted where its sender, another party, is a source still
-  pub not-deserted : (st : Standing) → b .standing ≡ st → (q : Party) → isSource (atnOf b) (here b i) ≡ false → deserted (atnOf b) (set (b .parties) i q) st ≡ false
+  pub not-deserted : (st : Standing) → b .standing ≡ st → (q : Party) → isSource (atnOf b) (here b i) ≡ false
+      → deserted (atnOf b) (set (b .parties) i q) st ≡ false
   not-deserted Nothing e q ns = refl
-  not-deserted (Byte s k v x) e q ns = rw (getD-set-other (b .parties) i (s .0) q idle other, sender-is-source b I s k v x e) refl
+  not-deserted (Byte s k v x) e q ns = rw (
+    getD-set-other (b .parties) i (s .0) q idle other,
+    sender-is-source b I s k v
+        x e,
+  ) refl
     where
       other : s .0 ≡ i → ⊥
-      other h = let z = sender-is-source b I s k v x e in let y = ap (λ (j : ℕ). isSource (atnOf b) (here b j)) h in no (cc)
+      other h = let z = sender-is-source b I s k v x e in let y = ap (λ (j : ℕ). isSource (atnOf b) (here b j)) h in
+          no (cc)
 
   -- what such a call leaves as it was
   module _ (s : Said) (q : Party) (st : Standing) where
@@ -97,14 +106,20 @@ record Calm (v : View) (e : Effect) : Type 0 where
 module _ (v : View) where
   calm-takes : (st : Standing) → Calm v (takes st v)
   calm-takes Nothing = record { follows = refl; standing = refl; control = refl }
-  calm-takes (Byte s k x e) = cond-elim (Calm v) (v .lines .atn) (λ _. record { follows = refl; standing = refl; control = refl }) (λ _. record { follows = refl; standing = refl; control = refl })
+  calm-takes (Byte s k x e) = cond-elim (Calm v) (v .lines .atn)
+      (λ _. record { follows = refl; standing = refl; control = refl })
+      (λ _. record { follows = refl; standing = refl; control = refl })
 
   calm-step : (a : Acceptor) → Calm v (acceptorIn a v)
   calm-step Aids = record { follows = refl; standing = refl; control = refl }
-  calm-step Anrs = cond-elim (Calm v) (v .lines .atn || not (isFull (v .party .input))) (λ _. record { follows = refl; standing = refl; control = refl }) (λ _. record { follows = refl; standing = refl; control = refl })
-  calm-step Acrs = cond-elim (Calm v) (v .lines .dav) (λ _. calm-takes (v .standing)) (λ _. record { follows = refl; standing = refl; control = refl })
+  calm-step Anrs = cond-elim (Calm v) (v .lines .atn || not (isFull (v .party .input)))
+      (λ _. record { follows = refl; standing = refl; control = refl })
+      (λ _. record { follows = refl; standing = refl; control = refl })
+  calm-step Acrs = cond-elim (Calm v) (v .lines .dav) (λ _. calm-takes (v .standing))
+      (λ _. record { follows = refl; standing = refl; control = refl })
   calm-step Acds = record { follows = refl; standing = refl; control = refl }
-  calm-step Awns = cond-elim (Calm v) (v .lines .dav) (λ _. record { follows = refl; standing = refl; control = refl }) (λ _. record { follows = refl; standing = refl; control = refl })
+  calm-step Awns = cond-elim (Calm v) (v .lines .dav) (λ _. record { follows = refl; standing = refl; control = refl })
+      (λ _. record { follows = refl; standing = refl; control = refl })
 
 -- party i takes the acceptor step
 abbrev pub Accepts : Bus → ℕ → Type 0
@@ -120,7 +135,9 @@ module _ (b : Bus) (I : Inv b) (i : ℕ) (A : Accepts b i) where
 
   pub as-local : m.call b (stepOf i) ≡ local b i (acts b i .said) (acts b i .party) (b .standing)
   as-local = call-step b I i (A .0)
-      ∙ rw (A .1, calm .follows, calm .standing) (touch-local b I i (A .0) (acts b i .said) (acts b i .party) (b .standing) (not-deserted b I i (A .0) (b .standing) refl (acts b i .party) (A .1)))
+      ∙ rw (A .1, calm .follows, calm .standing)
+      (touch-local b I i (A .0) (acts b i .said) (acts b i .party) (b .standing)
+      (not-deserted b I i (A .0) (b .standing) refl (acts b i .party) (A .1)))
 
   pub atn-kept : atnOf (m.call b (stepOf i) .bus) ≡ atnOf b
   atn-kept = rw as-local (local-atn b I i (A .0) (acts b i .said) (acts b i .party) (b .standing) (calm .control))

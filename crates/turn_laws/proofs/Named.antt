@@ -47,11 +47,13 @@ module _ (v : View) where
 
   ready-same : (o : Slot) (k : Kind) → Same (ready o k v)
   ready-same Empty k = refl
-  ready-same (Full x e) k = cond-elim Same (v .lines .nrfd) (λ _. refl) (λ _. cond-elim Same (v .lines .ndac) (λ _. refl) (λ _. refl))
+  ready-same (Full x e) k = cond-elim Same (v .lines .nrfd) (λ _. refl)
+      (λ _. cond-elim Same (v .lines .ndac) (λ _. refl) (λ _. refl))
 
   ended-same : (st : Standing) → Same (ended st v)
   ended-same Nothing = refl
-  ended-same (Byte s k x e) = cond-elim (λ (q : Party). nameOf q ≡ nameOf (v .party)) (ofCommand k) (λ _. hear-name (meaningOf x) (v .party .role)) (λ _. refl)
+  ended-same (Byte s k x e) = cond-elim (λ (q : Party). nameOf q ≡ nameOf (v .party)) (ofCommand k)
+      (λ _. hear-name (meaningOf x) (v .party .role)) (λ _. refl)
 
   source-same : (s : Source) (o : Slot) (k : Kind) → Same (sourceIn s o k v)
   source-same Sids o k = refl
@@ -75,7 +77,8 @@ module _ (v : View) where
   read-same (Full x e) = refl
 
 effect-same : (v : View) (c : Call) → Same v (effectOf v c)
-effect-same v (call-of.Of i act-of.Step) = let t = v .lines .atn in let p = v .party in cond-elim (Same v) (isSource t p)
+effect-same v (call-of.Of i act-of.Step) = let t = v .lines .atn in let p = v .party in
+    cond-elim (Same v) (isSource t p)
     (λ _. source-same v (p .source) (offer (isPolled t p) p) (kindOf (isActive p) (isPolled t p)))
     (λ _. acceptor-same v (p .acceptor))
 effect-same v (call-of.Of i (act-of.Write x e)) = refl
@@ -95,19 +98,25 @@ effect-same v call-of.Drivers = refl
 
 -- What follows leaves every name.
 module _ (b : Bus) (i : ℕ) (e : Effect) (same : nameOf (e .party) ≡ nameOf (here b i)) where
-  settled-same : (t : Bool) (ps : List Party) (j : ℕ) → nameOf (at (each (b .count) (settled t) ps) j) ≡ nameOf (at ps j)
+  settled-same : (t : Bool) (ps : List Party) (j : ℕ)
+      → nameOf (at (each (b .count) (settled t) ps) j) ≡ nameOf (at ps j)
   settled-same t ps = each-part nameOf (b .count) (settled t) ps (λ p. refl)
 
-  attended-same : (ps : List Party) (j : ℕ) → let t = some (b .count) isActive ps in nameOf (at (each (b .count) (settled t) (each (b .count) (attended t) ps)) j) ≡ nameOf (at ps j)
-  attended-same ps j = let t = some (b .count) isActive ps in settled-same t (each (b .count) (attended t) ps) j ∙ each-part nameOf (b .count) (attended t) ps (λ p. refl) j
+  attended-same : (ps : List Party) (j : ℕ) → let t = some (b .count) isActive ps in nameOf (at
+      (each (b .count) (settled t) (each (b .count) (attended t) ps)) j) ≡ nameOf (at ps j)
+  attended-same ps j = let t = some (b .count) isActive ps in
+      settled-same t (each (b .count) (attended t) ps) j ∙ each-part nameOf (b .count) (attended t) ps (λ p. refl) j
 
   followed-same : (x : After) (t : Bool) (j : ℕ) → nameAt (followed x t b i e .bus) j ≡ nameAt b j
-  followed-same after.Settle t j = settled-same t (set (b .parties) i (e .party)) j ∙ set-part nameOf (b .parties) i (e .party) same j
+  followed-same after.Settle t j = settled-same t (set (b .parties) i (e .party)) j
+      ∙ set-part nameOf (b .parties) i (e .party) same j
   followed-same (after.Pass k) t j =
       let left = set (b .parties) i (changeControl Idle (e .party)) in
       let kept = set-part nameOf (b .parties) i (changeControl Idle (e .party)) same in
-      attended-same (set left (k .0) (changeControl Active (here b (k .0)))) j ∙ set-part nameOf left (k .0) (changeControl Active (here b (k .0))) (sym (kept (k .0))) j ∙ kept j
-  followed-same after.Attend t j = attended-same (set (b .parties) i (e .party)) j ∙ set-part nameOf (b .parties) i (e .party) same j
+      attended-same (set left (k .0) (changeControl Active (here b (k .0)))) j
+      ∙ set-part nameOf left (k .0) (changeControl Active (here b (k .0))) (sym (kept (k .0))) j ∙ kept j
+  followed-same after.Attend t j = attended-same (set (b .parties) i (e .party)) j
+      ∙ set-part nameOf (b .parties) i (e .party) same j
   followed-same after.Clear t j =
       let all = each (b .count) cleared (b .parties) in
       let kept = each-part nameOf (b .count) cleared (b .parties) (λ p. refl) in
@@ -128,7 +137,9 @@ run-names b [] j = refl
 run-names b (c ∷ cs) j = run-names (m.call b c .bus) cs j ∙ call-names b c j
 
 pub named : Named
-named names system ok cs p h = run-names (buildExtended names system .bus) cs p ∙ cond-elim (λ (a : Answer). a .refusal ≡ ruling.Accepted → nameAt (a .bus) p ≡ getD names p (plain (address 0))) (badBuild names system)
+named names system ok cs p h = run-names (buildExtended names system .bus) cs p
+    ∙ cond-elim (λ (a : Answer). a .refusal ≡ ruling.Accepted → nameAt (a .bus) p ≡ getD names p (plain (address 0)))
+    (badBuild names system)
     (λ _ r. no (cc))
     (λ e _. ap nameOf (placed-at 15 names p h (fits names system e)))
     ok

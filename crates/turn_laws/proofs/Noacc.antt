@@ -51,12 +51,14 @@ module _ (v : View) where
   takes-else : (st : Standing) → Else (takes st v)
   takes-else Nothing = λ h. no (cc)
   takes-else (Byte s k x e) = cond-elim Else (v .lines .atn)
-      (λ _. hear-events (λ (y : Event). y ≡ ev.Noacc → ⊥) (λ h. no (cc)) (λ h. no (cc)) (λ h. no (cc)) (meaningOf x) (v .party .role .listen))
+      (λ _. hear-events (λ (y : Event). y ≡ ev.Noacc → ⊥) (λ h. no (cc)) (λ h. no (cc)) (λ h. no (cc)) (meaningOf x)
+      (v .party .role .listen))
       (λ _ h. no (cc))
 
   acceptor-else : (a : Acceptor) → Else (acceptorIn a v)
   acceptor-else Aids = λ h. no (cc)
-  acceptor-else Anrs = cond-elim Else (v .lines .atn || not (isFull (v .party .input))) (λ _ h. no (cc)) (λ _ h. no (cc))
+  acceptor-else Anrs = cond-elim Else (v .lines .atn || not (isFull (v .party .input))) (λ _ h. no (cc))
+      (λ _ h. no (cc))
   acceptor-else Acrs = cond-elim Else (v .lines .dav) (λ _. takes-else (v .standing)) (λ _ h. no (cc))
   acceptor-else Acds = λ h. no (cc)
   acceptor-else Awns = cond-elim Else (v .lines .dav) (λ _ h. no (cc)) (λ _ h. no (cc))
@@ -71,7 +73,8 @@ module _ (b : Bus) (I : Inv b) where
     kind = kindOf (isActive (here b p)) (isPolled (atnOf b) (here b p))
 
     none : b .standing ≡ Nothing
-    none = nothing-stands (b .count) (atnOf b) (here b) (b .standing) (I .pre) (quiet b I) p (A .source) (λ h. let z = A .ready in no (cc))
+    none = nothing-stands (b .count) (atnOf b) (here b) (b .standing) (I .pre) (quiet b I) p (A .source)
+        (λ h. let z = A .ready in no (cc))
 
     as-noacc : m.call b (stepOf p) ≡ follow (atnOf b) b p (noacc kind v e (m.viewAt (place p) (lines b) b))
     unfolding kind
@@ -85,18 +88,22 @@ module _ (b : Bus) (I : Inv b) where
 
     -- nobody is there
     unaided : (j : ℕ) → here b j .acceptor ≡ Aids
-    unaided j = in-aids (here b j .acceptor) (some-none (b .count) drivesNrfd (b .parties) refl (I .pre .tail) (A .quiet) j) (some-none (b .count) drivesNdac (b .parties) refl (I .pre .tail) (A .nobody) j)
+    unaided j = in-aids (here b j .acceptor) (some-none (b .count) drivesNrfd (b .parties) refl (I .pre .tail)
+        (A .quiet) j) (some-none (b .count) drivesNdac (b .parties) refl (I .pre .tail) (A .nobody) j)
 
     -- a turn of whichever party, or of none
     turn : (j : ℕ) → m.call b (stepOf j) .bus ≡ b
-    turn j = test (ltb j (b .count)) (λ h. inside (ltb-true j (b .count) h)) (λ h. ap (λ (a : Answer). a .bus) (no-step b j h))
+    turn j = test (ltb j (b .count)) (λ h. inside (ltb-true j (b .count) h))
+        (λ h. ap (λ (a : Answer). a .bus) (no-step b j h))
       where
         other : j < b .count → isSource (atnOf b) (here b j) ≡ false → m.call b (stepOf j) .bus ≡ b
-        other l ns = rw (as-local b I j (l, ns), unaided j) (ap (λ (a : Answer). a .bus) (same j (say ev.None 0 false 0)))
+        other l ns = rw (as-local b I j (l, ns), unaided j)
+            (ap (λ (a : Answer). a .bus) (same j (say ev.None 0 false 0)))
 
         inside : j < b .count → m.call b (stepOf j) .bus ≡ b
         inside l = test (isSource (atnOf b) (here b j))
-            (λ h. subst (λ (i : ℕ). m.call b (stepOf i) .bus ≡ b) (one-source b I p j (A .source) h) (ap (λ (a : Answer). a .bus) says))
+            (λ h. subst (λ (i : ℕ). m.call b (stepOf i) .bus ≡ b) (one-source b I p j (A .source) h)
+            (ap (λ (a : Answer). a .bus) says))
             (other l)
 
     again : (turns : List ℕ) → m.run b (steps turns) ≡ b
@@ -118,7 +125,8 @@ module _ (b : Bus) (I : Inv b) where
     put-else Status v e h = no (cc)
 
     -- whatever follows on the end of a byte
-    over-else : (z : After) (v : ℕ) (e : Bool) (q : Party) → Told (record { said = say ev.Ended v e 0; after = z; party = q; standing = Nothing })
+    over-else : (z : After) (v : ℕ) (e : Bool) (q : Party)
+        → Told (record { said = say ev.Ended v e 0; after = z; party = q; standing = Nothing })
     unfolding Told
     over-else after.Settle v e q h = no (cc)
     over-else (after.Pass j) v e q h = no (cc)
@@ -158,7 +166,8 @@ module _ (b : Bus) (I : Inv b) where
         (λ ns. absurd (acceptor-else seen (here b p .acceptor) (sym (event-of b I p (l, ns)) ∙ h)))
 
   only : (p : ℕ) → m.call b (stepOf p) .event ≡ ev.Noacc → (v : ℕ) × (e : Bool) × Alone b p v e
-  only p h = test (ltb p (b .count)) (λ t. inside-only p (ltb-true p (b .count) t) h) (λ f. let z = ap (λ (a : Answer). a .event) (no-step b p f) in no (cc))
+  only p h = test (ltb p (b .count)) (λ t. inside-only p (ltb-true p (b .count) t) h)
+      (λ f. let z = ap (λ (a : Answer). a .event) (no-step b p f) in no (cc))
 
 keeps : (b : Bus) → Inv b → Keeps b
 keeps b I = record { says = says b I; again = again b I; only = only b I }

@@ -1,4 +1,5 @@
--- Bytes that are kept, beside the data byte of P7: a command and a status byte. "until an acceptor appears or the byte is off offer" (document 02, Q-2)
+-- Bytes that are kept, beside the data byte of P7: a command and a status byte. "until an acceptor appears or the byte
+-- is off offer" (document 02, Q-2)
 -- Assumes nothing.
 use mathlib.Core.Path.{_≡_}
 use mathlib.Core.Bool.{false}
@@ -8,9 +9,11 @@ use Rattle.bus.specs.Types.ev
 use Rattle.bus.specs.Types.ruling
 use Rattle.bus.specs.Types.call-of
 use Rattle.bus.specs.Types.act-of
-use Rattle.bus.specs.Rows.{Run, outcome, expected, ok, moved, says, loses, refused, step, write, listenOnly, drop, clear, standby, run, sends}
+use Rattle.bus.specs.Rows.{Run, outcome, expected, ok, moved, says, loses, refused, step, write, listenOnly, drop}
+use Rattle.bus.specs.Rows.{clear, standby, run, sends}
 
--- A controller with nobody beside it. Its command stays held, so that a second write is refused, until the host drops it: the source goes back to SGNS.
+-- A controller with nobody beside it. Its command stays held, so that a second write is refused, until the host drops
+-- it: the source goes back to SGNS.
 abbrev pub command : Run
 command =
     run (5 ∷ []) (
@@ -25,7 +28,8 @@ command =
     ∷ (step 0, ok)
     ∷ [])
 
--- A polled party with a byte of its own held, and nobody to read its status byte until the controller listens. The held byte stays held all along.
+-- A polled party with a byte of its own held, and nobody to read its status byte until the controller listens. The held
+-- byte stays held all along.
 abbrev pub status : Run
 status =
     run (4 ∷ 5 ∷ []) (

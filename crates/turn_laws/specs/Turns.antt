@@ -30,17 +30,20 @@ stepOf k = call-of.Of (place k) act-of.Step
 abbrev pub steps : List ℕ → List Call
 steps xs = map stepOf xs
 
--- What no call changes: a party keeps the name that its build gave it, so that a host can tell from any bus which parties have secondaries (document 02, Q-3).
+-- What no call changes: a party keeps the name that its build gave it, so that a host can tell from any bus which
+-- parties have secondaries (document 02, Q-3).
 
 abbrev pub nameAt : Bus → ℕ → Name
 nameAt b p = here b p .role .name
 
 -- On every bus that an accepted build and any calls lead to.
 abbrev pub Named : Type 0
-Named = (names : List Name) (system : Place) → buildExtended names system .refusal ≡ ruling.Accepted → (cs : List Call) (p : ℕ) → p < length names
+Named = (names : List Name) (system : Place) → buildExtended names system .refusal ≡ ruling.Accepted
+    → (cs : List Call) (p : ℕ) → p < length names
     → nameAt (m.run (buildExtended names system .bus) cs) p ≡ getD names p (plain (address 0))
 
--- "A byte with nobody to take it is kept" (document 02, Q-2): what the definition of noacc comes to on the buses there are.
+-- "A byte with nobody to take it is kept" (document 02, Q-2): what the definition of noacc comes to on the buses there
+-- are.
 
 -- Party p is a source in SDYS with the byte v, END e, on offer, and there is no acceptor: nobody drives NRFD or NDAC.
 pub record Alone (b : Bus) (p v : ℕ) (e : Bool) : Type 0 where
@@ -53,7 +56,8 @@ pub record Alone (b : Bus) (p v : ℕ) (e : Bool) : Type 0 where
 
 -- Noacc with that byte and its END, nothing dropped, nothing broken off, and the bus as it was.
 abbrev pub kept : Bus → ℕ → ℕ → Bool → Answer
-kept b p v e = answered false (say ev.Noacc v (endOf (kindOf (isActive (here b p)) (isPolled (lines b .atn) (here b p))) e) 0) b
+kept b p v e = answered false (say ev.Noacc v
+    (endOf (kindOf (isActive (here b p)) (isPolled (lines b .atn) (here b p))) e) 0) b
 
 pub record Keeps (b : Bus) : Type 0 where
   -- "noacc leaves the held byte in its register and the source in SDYS"
@@ -65,4 +69,5 @@ pub record Keeps (b : Bus) : Type 0 where
 
 -- On every bus that an accepted build and any calls lead to.
 abbrev pub KeepsByte : Type 0
-KeepsByte = (names : List Name) (system : Place) → buildExtended names system .refusal ≡ ruling.Accepted → (cs : List Call) → Keeps (m.run (buildExtended names system .bus) cs)
+KeepsByte = (names : List Name) (system : Place) → buildExtended names system .refusal ≡ ruling.Accepted
+    → (cs : List Call) → Keeps (m.run (buildExtended names system .bus) cs)

@@ -13,7 +13,8 @@ use Rattle.addresses.proofs.any_over_30.Statement.{statement}
 use Rattle.addresses.proofs.any_over_30.Tie as tie
 
 abbrev Inv-loop : tie.InvT-loop
-Inv-loop addresses secondaries found₀ i₀ found i = (found || anyOver30 (drop i (names addresses secondaries))) ≡ anyOver30 (names addresses secondaries)
+Inv-loop addresses secondaries found₀ i₀ found i = (found || anyOver30 (drop i (names addresses secondaries)))
+    ≡ anyOver30 (names addresses secondaries)
 
 abbrev μ-loop : tie.MeasureT-loop
 μ-loop addresses secondaries found₀ i₀ found i = length addresses - i
@@ -42,8 +43,10 @@ loop-again c =
     let a = b .before .before .before .args in
     let l = names (a .addresses .now) (a .secondaries .now) in
     let z = names-length (a .addresses .now) (a .secondaries .now) in
-    scan-turn anyOver30 (λ x xs. isOver30 x) refl (λ x xs. refl) l (b .loop .i) (b .loop .found) (anyOver30 l) (b .loop .inv) (plain (address 0)) (c .or .result) (omega arith)
-    (c .or .ensures ∙ ap (λ x. b .loop .found || x) (c .before .is-over-30 .ensures ∙ ap isOver30 (c .before .before .name-at .ensures)))
+    scan-turn anyOver30 (λ x xs. isOver30 x) refl (λ x xs. refl) l (b .loop .i) (b .loop .found) (anyOver30 l)
+    (b .loop .inv) (plain (address 0)) (c .or .result) (omega arith)
+    (c .or .ensures ∙ ap (λ x. b .loop .found || x)
+    (c .before .is-over-30 .ensures ∙ ap isOver30 (c .before .before .name-at .ensures)))
 
 returns : tie.Need-returns Inv-loop μ-loop
 returns c =
@@ -51,9 +54,11 @@ returns c =
     let a = b .before .before .before .args in
     let l = names (a .addresses .now) (a .secondaries .now) in
     let z = names-length (a .addresses .now) (a .secondaries .now) in
-    scan-done anyOver30 (λ x xs. isOver30 x) refl (λ x xs. refl) l (b .loop .i) (b .loop .found) (anyOver30 l) (b .loop .inv) (omega arith)
+    scan-done anyOver30 (λ x xs. isOver30 x) refl (λ x xs. refl) l (b .loop .i) (b .loop .found) (anyOver30 l)
+    (b .loop .inv) (omega arith)
 
 pub any-over-30-spec : {M : Type 1} → statement M
 any-over-30-spec =
     tie.close
-    (tie.spec Inv-loop μ-loop loop-holds name-at-requires is-over-30-requires or-requires add-i loop-less loop-again returns)
+    (tie.spec Inv-loop μ-loop loop-holds name-at-requires is-over-30-requires or-requires add-i loop-less loop-again
+    returns)

@@ -36,7 +36,8 @@ returns-5 c =
       names-length,
       ne-eqb _ 0 (c .before .before .before .before .before .before .before .if1 .left),
       le-ltb 15 _ (c .before .before .before .before .before .before .if2 .left),
-      sym (c .before .before .before .before .before .any-over-30 .ensures) ∙ c .before .before .before .before .if3 .left,
+      sym (c .before .before .before .before .before .any-over-30 .ensures)
+          ∙ c .before .before .before .before .if3 .left,
       sym (c .before .before .before .two-clash .ensures) ∙ c .before .before .if4 .left,
       lt-ltb _ _ (c .if5 .taken),
     )
@@ -47,7 +48,8 @@ returns-6 c =
       names-length,
       ne-eqb _ 0 (c .before .before .before .before .before .before .before .if1 .left),
       le-ltb 15 _ (c .before .before .before .before .before .before .if2 .left),
-      sym (c .before .before .before .before .before .any-over-30 .ensures) ∙ c .before .before .before .before .if3 .left,
+      sym (c .before .before .before .before .before .any-over-30 .ensures)
+          ∙ c .before .before .before .before .if3 .left,
       sym (c .before .before .before .two-clash .ensures) ∙ c .before .before .if4 .left,
       le-ltb _ _ (c .if5 .left),
     )

@@ -13,7 +13,9 @@ use Rattle.addresses.proofs.clashes_with.Statement.{statement}
 use Rattle.addresses.proofs.clashes_with.Tie as tie
 
 abbrev Inv-loop : tie.InvT-loop
-Inv-loop n addresses secondaries from found₀ i₀ found i = (found || clashesWith n (drop i (names addresses secondaries))) ≡ clashesWith n (drop from (names addresses secondaries))
+Inv-loop n addresses secondaries from found₀ i₀ found i =
+    (found || clashesWith n (drop i (names addresses secondaries)))
+    ≡ clashesWith n (drop from (names addresses secondaries))
 
 abbrev μ-loop : tie.MeasureT-loop
 μ-loop n addresses secondaries from found₀ i₀ found i = length addresses - i
@@ -42,8 +44,10 @@ loop-again c =
     let a = b .before .before .before .args in
     let l = names (a .addresses .now) (a .secondaries .now) in
     let z = names-length (a .addresses .now) (a .secondaries .now) in
-    scan-turn (clashesWith (a .n)) (λ x xs. clashes (a .n) x) refl (λ x xs. refl) l (b .loop .i) (b .loop .found) (clashesWith (a .n) (drop (a .from) l)) (b .loop .inv) (plain (address 0)) (c .or .result) (omega arith)
-    (c .or .ensures ∙ ap (λ x. b .loop .found || x) (c .before .clashes .ensures ∙ ap (clashes (a .n)) (c .before .before .name-at .ensures)))
+    scan-turn (clashesWith (a .n)) (λ x xs. clashes (a .n) x) refl (λ x xs. refl) l (b .loop .i) (b .loop .found)
+    (clashesWith (a .n) (drop (a .from) l)) (b .loop .inv) (plain (address 0)) (c .or .result) (omega arith)
+    (c .or .ensures ∙ ap (λ x. b .loop .found || x)
+    (c .before .clashes .ensures ∙ ap (clashes (a .n)) (c .before .before .name-at .ensures)))
 
 returns : tie.Need-returns Inv-loop μ-loop
 returns c =
@@ -51,9 +55,11 @@ returns c =
     let a = b .before .before .before .args in
     let l = names (a .addresses .now) (a .secondaries .now) in
     let z = names-length (a .addresses .now) (a .secondaries .now) in
-    scan-done (clashesWith (a .n)) (λ x xs. clashes (a .n) x) refl (λ x xs. refl) l (b .loop .i) (b .loop .found) (clashesWith (a .n) (drop (a .from) l)) (b .loop .inv) (omega arith)
+    scan-done (clashesWith (a .n)) (λ x xs. clashes (a .n) x) refl (λ x xs. refl) l (b .loop .i) (b .loop .found)
+    (clashesWith (a .n) (drop (a .from) l)) (b .loop .inv) (omega arith)
 
 pub clashes-with-spec : {M : Type 1} → statement M
 clashes-with-spec =
     tie.close
-    (tie.spec Inv-loop μ-loop loop-holds name-at-requires clashes-requires or-requires add-i loop-less loop-again returns)
+    (tie.spec Inv-loop μ-loop loop-holds name-at-requires clashes-requires or-requires add-i loop-less loop-again
+    returns)

@@ -14,7 +14,8 @@ use Rattle.addresses.proofs.two_clash.Statement.{statement}
 use Rattle.addresses.proofs.two_clash.Tie as tie
 
 abbrev Inv-loop : tie.InvT-loop
-Inv-loop addresses secondaries found₀ i₀ found i = (found || twoClash (drop i (names addresses secondaries))) ≡ twoClash (names addresses secondaries)
+Inv-loop addresses secondaries found₀ i₀ found i = (found || twoClash (drop i (names addresses secondaries)))
+    ≡ twoClash (names addresses secondaries)
 
 abbrev μ-loop : tie.MeasureT-loop
 μ-loop addresses secondaries found₀ i₀ found i = length addresses - i
@@ -43,8 +44,11 @@ loop-again c =
     let a = b .before .before .before .args in
     let l = names (a .addresses .now) (a .secondaries .now) in
     let z = names-length (a .addresses .now) (a .secondaries .now) in
-    scan-turn twoClash clashesWith refl (λ x xs. refl) l (b .loop .i) (b .loop .found) (twoClash l) (b .loop .inv) (plain (address 0)) (c .or .result) (omega arith)
-    (c .or .ensures ∙ ap (λ x. b .loop .found || x) (c .before .clashes-with .ensures ∙ ap (λ (x : Name). clashesWith x (drop (b .loop .i + 1) l)) (c .before .before .name-at .ensures)))
+    scan-turn twoClash clashesWith refl (λ x xs. refl) l (b .loop .i) (b .loop .found) (twoClash l) (b .loop .inv)
+    (plain (address 0)) (c .or .result) (omega arith)
+    (c .or .ensures ∙ ap (λ x. b .loop .found || x)
+    (c .before .clashes-with .ensures
+    ∙ ap (λ (x : Name). clashesWith x (drop (b .loop .i + 1) l)) (c .before .before .name-at .ensures)))
 
 returns : tie.Need-returns Inv-loop μ-loop
 returns c =
@@ -52,9 +56,11 @@ returns c =
     let a = b .before .before .before .args in
     let l = names (a .addresses .now) (a .secondaries .now) in
     let z = names-length (a .addresses .now) (a .secondaries .now) in
-    scan-done twoClash clashesWith refl (λ x xs. refl) l (b .loop .i) (b .loop .found) (twoClash l) (b .loop .inv) (omega arith)
+    scan-done twoClash clashesWith refl (λ x xs. refl) l (b .loop .i) (b .loop .found) (twoClash l) (b .loop .inv)
+    (omega arith)
 
 pub two-clash-spec : {M : Type 1} → statement M
 two-clash-spec =
     tie.close
-    (tie.spec Inv-loop μ-loop loop-holds name-at-requires add-i clashes-with-requires or-requires loop-less loop-again returns)
+    (tie.spec Inv-loop μ-loop loop-holds name-at-requires add-i clashes-with-requires or-requires loop-less loop-again
+    returns)

@@ -9,7 +9,8 @@ array-share-prefix-line : tie.Need-array-share-prefix-line
 array-share-prefix-line c = c .before .put-line .ensures .written (omega arith) .fits
 
 slice-aggregate-write-all : tie.Need-slice-aggregate-write-all
-slice-aggregate-write-all c = sym (length-take-le _ _ (c .before .before .put-line .ensures .written (omega arith) .fits))
+slice-aggregate-write-all c = sym (length-take-le _ _
+    (c .before .before .put-line .ensures .written (omega arith) .fits))
 
 pub show-spec : {M : Type 1} → statement M
 show-spec =

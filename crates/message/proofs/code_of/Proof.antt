@@ -1,4 +1,4 @@
--- The table's rule, proved once over the whole table: entry b is the code of the meaningOf of b.
+-- The table's rule, proved once over the whole table: entry b is the code of the meaning of b.
 use mathlib.Core.Path.{refl}
 use borrow.Author.Needs.{needs}
 use Rattle.message.specs.Meaning.{named, sevenBits, meaningOf, codeOf}

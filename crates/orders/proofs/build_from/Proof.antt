@@ -32,7 +32,8 @@ unfolding buildFrom
 returns-3 c =
     let a = c .before .before in
     let s = a .before .before .before in
-    c .build3 .ensures ∙ ap (λ (l : List ℕ). build l (s .args .system)) (ap (take (s .args .n)) (a .count-up .ensures) ∙ take-up (s .args .n) 15 (s .args .first) (omega arith))
+    c .build3 .ensures ∙ ap (λ (l : List ℕ). build l (s .args .system))
+    (ap (take (s .args .n)) (a .count-up .ensures) ∙ take-up (s .args .n) 15 (s .args .first) (omega arith))
 
 pub build-from-spec : {M : Type 1} → statement M
 build-from-spec =

@@ -10,12 +10,14 @@ returns-2 : tie.Need-returns-2
 unfolding textOf
 returns-2 c =
     let r = c .before .before .before .before in
-    rw (lt-ltb _ _ (r .before .before .if1 .taken)) (at-start (rw (r .refuse .ensures) at (c .before .before .put-line .ensures .written (omega arith))))
+    rw (lt-ltb _ _ (r .before .before .if1 .taken))
+    (at-start (rw (r .refuse .ensures) at (c .before .before .put-line .ensures .written (omega arith))))
 
 returns-4 : tie.Need-returns-4
 unfolding textOf
 returns-4 c =
-    rw (le-ltb _ _ (c .before .before .before .before .before .if1 .left)) (at-start (c .before .before .run-all .ensures))
+    rw (le-ltb _ _ (c .before .before .before .before .before .if1 .left))
+    (at-start (c .before .before .run-all .ensures))
 
 pub run-spec : {M : Type 1} → statement M
 run-spec =

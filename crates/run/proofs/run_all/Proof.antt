@@ -27,7 +27,8 @@ build-requires c κs = search needs
 loop-holds : tie.Need-loop-holds Inv-loop μ-loop
 loop-holds c =
     let b = c .before .before .before .before .before in
-    start (b .args .script .now) (b .args .out .now) (c .before .build .result .bus) (ap (λ (a : Answer). a .bus) (c .before .build .ensures)) (b .pre)
+    start (b .args .script .now) (b .args .out .now) (c .before .build .result .bus)
+    (ap (λ (a : Answer). a .bus) (c .before .build .ensures)) (b .pre)
 
 record-requires : tie.Need-record-requires Inv-loop μ-loop
 record-requires c κs = search needs
@@ -49,7 +50,8 @@ loop-less c =
     let a = c .before .before .before .before .before .before in
     let l = a .before .before .before in
     let s = l .before .before .before .before .before .before .args .script .now in
-    let e : c .after-of .result ≡ next s (l .loop .at) = c .after-of .ensures ∙ ap (λ (r : Next). afterOf r (l .loop .at) (length s)) (a .before .«record» .ensures) in
+    let e : c .after-of .result ≡ next s (l .loop .at) = c .after-of .ensures
+    ∙ ap (λ (r : Next). afterOf r (l .loop .at) (length s)) (a .before .«record» .ensures) in
     let t = turn s (l .loop .at) (a .before .before .loop-test .taken) in
     omega (arith, t .further, t .within, e)
 

@@ -33,19 +33,27 @@ step-requires : tie.Need-step-requires Inv-loop μ-loop
 step-requires c κs = search needs
 
 mul-counts : tie.Need-mul-counts Inv-loop μ-loop
-mul-counts c = let z = in-places (c .before .before .before .before .loop .inv) (c .before .before .place-of-turn .ensures) in omega arith
+mul-counts c = let z = in-places (c .before .before .before .before .loop .inv)
+    (c .before .before .place-of-turn .ensures) in omega arith
 
 array-read-counts : tie.Need-array-read-counts Inv-loop μ-loop
-array-read-counts c = in-places (c .before .before .before .before .loop .inv) (c .before .before .place-of-turn .ensures)
+array-read-counts c = in-places (c .before .before .before .before .loop .inv)
+    (c .before .before .place-of-turn .ensures)
 
 add-counts : tie.Need-add-counts Inv-loop μ-loop
-add-counts c = omega (arith, c .before .before .before .before .loop .inv .small (c .before .before .place-of-turn .result))
+add-counts c = omega (
+  arith,
+  c .before .before .before .before .loop .inv .small
+      (c .before .before .place-of-turn .result),
+)
 
 mul-counts-2 : tie.Need-mul-counts-2 Inv-loop μ-loop
-mul-counts-2 c = let z = in-places (c .before .before .before .before .loop .inv) (c .before .before .place-of-turn .ensures) in omega arith
+mul-counts-2 c = let z = in-places (c .before .before .before .before .loop .inv)
+    (c .before .before .place-of-turn .ensures) in omega arith
 
 array-write-counts : tie.Need-array-write-counts Inv-loop μ-loop
-array-write-counts c = in-places (c .before .before .before .before .loop .inv) (c .before .before .place-of-turn .ensures)
+array-write-counts c = in-places (c .before .before .before .before .loop .inv)
+    (c .before .before .place-of-turn .ensures)
 
 add-t : tie.Need-add-t Inv-loop μ-loop
 add-t c = search needs
@@ -54,10 +62,12 @@ loop-less : tie.Need-loop-less Inv-loop μ-loop
 loop-less c = search needs
 
 loop-again : tie.Need-loop-again Inv-loop μ-loop
-loop-again c = again (c .before .before .before .before .loop .inv) (c .before .before .before .loop-test .taken) (c .before .before .place-of-turn .ensures) (c .before .step .ensures)
+loop-again c = again (c .before .before .before .before .loop .inv) (c .before .before .before .loop-test .taken)
+    (c .before .before .place-of-turn .ensures) (c .before .step .ensures)
 
 returns-2 : tie.Need-returns-2 Inv-loop μ-loop
-returns-2 c = ends (c .before .loop .inv) (c .loop-test .left) (c .before .before .within .ensures .0) (c .before .before .before .if1 .left)
+returns-2 c = ends (c .before .loop .inv) (c .loop-test .left) (c .before .before .within .ensures .0)
+    (c .before .before .before .if1 .left)
 
 pub give-turns-spec : {M : Type 1} → statement M
 give-turns-spec =

@@ -11,10 +11,12 @@ slice-aggregate-copy-in : tie.Need-slice-aggregate-copy-in
 slice-aggregate-copy-in c = sym (length-take-le _ _ (c .before .before .word .ensures .0))
 
 copy-in-requires : tie.Need-copy-in-requires
-copy-in-requires c κs = rw (c .before .before .before .word .ensures .1) (c .before .before .before .before .before .pre)
+copy-in-requires c κs = rw (c .before .before .before .word .ensures .1)
+    (c .before .before .before .before .before .pre)
 
 returns : tie.Need-returns
-returns c = rw (c .before .before .before .before .before .before .word .ensures .1) at (c .before .before .copy-in .ensures)
+returns c = rw (c .before .before .before .before .before .before .word .ensures .1) at
+    (c .before .before .copy-in .ensures)
 
 pub put-word-spec : {M : Type 1} → statement M
 put-word-spec =

@@ -17,7 +17,8 @@ returns c = simp (c .refuse .ensures, sym (c .before .before .bad-build .ensures
 placed-requires : tie.Need-placed-requires
 placed-requires c κs =
     let a = c .before .before .before .before .args in
-    let few = fits (names (a .addresses .now) (a .secondaries .now)) (a .system) (sym (c .before .bad-build .ensures) ∙ c .if1 .left) in
+    let few = fits (names (a .addresses .now) (a .secondaries .now)) (a .system)
+    (sym (c .before .bad-build .ensures) ∙ c .if1 .left) in
     let z = names-length (a .addresses .now) (a .secondaries .now) in
     omega arith
 
@@ -26,8 +27,15 @@ returns-2 c =
     let p = c .before in
     let a = p .before .before .before .before .before .args in
     let good = sym (p .before .before .bad-build .ensures) ∙ p .before .if1 .left in
-    let few : length (a .addresses .now) ≤ 15 = rw (sym (names-length (a .addresses .now) (a .secondaries .now))) (fits (names (a .addresses .now) (a .secondaries .now)) (a .system) good) in
-    simp (c .refuse2 .ensures, p .placed .ensures, mod-eq-of-lt {n = length (a .addresses .now)} {m = 256} (omega arith) ∙ sym (names-length (a .addresses .now) (a .secondaries .now)), good)
+    let few : length (a .addresses .now) ≤ 15 = rw (sym (names-length (a .addresses .now) (a .secondaries .now)))
+    (fits (names (a .addresses .now) (a .secondaries .now)) (a .system) good) in
+    simp (
+      c .refuse2 .ensures,
+      p .placed .ensures,
+      mod-eq-of-lt {n = length (a .addresses .now)} {m = 256} (omega arith)
+          ∙ sym (names-length (a .addresses .now) (a .secondaries .now)),
+      good,
+    )
 
 pub build-extended-spec : {M : Type 1} → statement M
 build-extended-spec =

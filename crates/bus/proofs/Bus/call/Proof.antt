@@ -14,15 +14,18 @@ use Rattle.bus.proofs.Bus.call.Statement.{statement}
 use Rattle.bus.proofs.Bus.call.Tie as tie
 
 -- What it was told by the pass is what the machine reads.
-heard : (v : tie.After-told) → let w = v .before .before .before .before in let a = w .before .before .before .args in v .told .result ≡ scanOf (w .before .slot .result) (a .self .count) (a .self .parties) (hasEnd (a .self .standing))
+heard : (v : tie.After-told) → let w = v .before .before .before .before in let a = w .before .before .before .args in v
+    .told .result ≡ scanOf (w .before .slot .result) (a .self .count) (a .self .parties) (hasEnd (a .self .standing))
 heard v =
     let w = v .before .before .before .before in
     let a = w .before .before .before .args in
     let z : length (a .self .parties) ≡ 15 = search (needs, length-of-map) in
-    v .told .ensures ∙ rw (v .before .has-end .ensures, v .before .before .sweep-of .ensures) (told-scan (a .self .count) (a .self .parties) z (w .before .slot .result) (hasEnd (a .self .standing)))
+    v .told .ensures ∙ rw (v .before .has-end .ensures, v .before .before .sweep-of .ensures)
+    (told-scan (a .self .count) (a .self .parties) z (w .before .slot .result) (hasEnd (a .self .standing)))
 
 -- The refusal is the machine's: what was read at the slot is what the machine reads at the place.
-ruled : (j : tie.After-judge) → let a = j .before .before .before .before .before .before .before .before .before .before .before .before .before .args in j .judge .result ≡ refusal (lines (a .self)) (a .self) (a .c)
+ruled : (j : tie.After-judge) → let a = j .before .before .before .before .before .before .before .before .before
+    .before .before .before .before .args in j .judge .result ≡ refusal (lines (a .self)) (a .self) (a .c)
 ruled j =
     let f = j .before .before .before in
     let v = f .before .before .before in
@@ -42,7 +45,8 @@ returns c =
     let v = j .before .before .before .before .before .before in
     let w = v .before .before .before .before .before in
     let a = w .before .before .args in
-    let ok : isAccepted (refusal (lines (a .self)) (a .self) (a .c)) ≡ true = ap isAccepted (sym (ruled j)) ∙ sym (c .before .before .before .is-accepted .ensures) ∙ c .before .before .if1 .taken in
+    let ok : isAccepted (refusal (lines (a .self)) (a .self) (a .c)) ≡ true = ap isAccepted (sym (ruled j))
+    ∙ sym (c .before .before .before .is-accepted .ensures) ∙ c .before .before .if1 .taken in
     c .follow .ensures ∙ rw (
       c .before .effect-of .ensures,
       j .before .before .before .is-inside .ensures,
@@ -56,7 +60,8 @@ returns c =
 returns-2 : tie.Need-returns-2
 returns-2 c =
     let j = c .before .before .before in
-    let no : isAccepted (j .judge .result) ≡ false = sym (c .before .before .is-accepted .ensures) ∙ c .before .if1 .left in
+    let no : isAccepted (j .judge .result) ≡ false = sym (c .before .before .is-accepted .ensures)
+    ∙ c .before .if1 .left in
     c .refuse .ensures ∙ rw (sym (ruled j), no) refl
 
 pub call-spec : {M : Type 1} → statement M

@@ -8,7 +8,9 @@ use Rattle.bus.proofs.Bus.drivers.Tie as tie
 returns : tie.Need-returns
 returns c =
     let b = c .before .before .before .before .before .before .args .self in
-    let m : c .before .before .masks-with .result ≡ masks b = c .before .before .masks-with .ensures ∙ rw (c .before .before .before .end-mask .ensures, c .before .before .before .before .sweep-of .ensures) refl in
+    let m : c .before .before .masks-with .result ≡ masks b = c .before .before .masks-with .ensures
+    ∙ rw (c .before .before .before .end-mask .ensures, c .before .before .before .before .sweep-of .ensures) refl
+    in
     rw (c .call .ensures, c .before .counts .ensures, m, masks-counted b) refl
 
 pub drivers-spec : {M : Type 1} → statement M

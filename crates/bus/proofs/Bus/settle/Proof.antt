@@ -18,23 +18,29 @@ use Rattle.bus.proofs.Bus.settle.Statement.{statement}
 use Rattle.bus.proofs.Bus.settle.Tie as tie
 
 abbrev Inv-loop : tie.InvT-loop
-Inv-loop self atn said st system parties₀ at off n k₀ parties k = (k ≤ n) × (parties ≡ each k (settled true) parties₀) × (atn ≡ true)
+Inv-loop self atn said st system parties₀ at off n k₀ parties k = (k ≤ n) × (parties ≡ each k (settled true) parties₀)
+    × (atn ≡ true)
 
 abbrev μ-loop : tie.MeasureT-loop
 μ-loop self atn said st system parties₀ at off n k₀ parties k = n - k
 
 abbrev Inv-loop2 : tie.InvT-loop2
-Inv-loop2 self atn said st system parties₀ at off n k₀ parties k = (k ≤ n) × (parties ≡ each k (settled false) parties₀) × (atn ≡ false)
+Inv-loop2 self atn said st system parties₀ at off n k₀ parties k = (k ≤ n) × (parties ≡ each k (settled false) parties₀)
+    × (atn ≡ false)
 
 abbrev μ-loop2 : tie.MeasureT-loop2
 μ-loop2 self atn said st system parties₀ at off n k₀ parties k = n - k
 
 -- at the end of either loop
-all : (atn : Bool) (ps : List Party) → length ps ≡ 15 → (count n k : ℕ) → n ≡ within count → k ≤ n → n ≤ k → {out : List Party} → out ≡ each k (settled atn) ps → out ≡ each count (settled atn) ps
-all atn ps z count n k w l m = done (λ k. each k (settled atn) ps) count n k (all-15 (λ k. each k (settled atn) ps) count ps z (each-all count (settled atn) ps)) w l m
+all : (atn : Bool) (ps : List Party) → length ps ≡ 15 → (count n k : ℕ) → n ≡ within count → k ≤ n → n ≤ k
+    → {out : List Party} → out ≡ each k (settled atn) ps → out ≡ each count (settled atn) ps
+all atn ps z count n k w l m = done (λ k. each k (settled atn) ps) count n k
+    (all-15 (λ k. each k (settled atn) ps) count ps z (each-all count (settled atn) ps)) w l m
 
 -- The effect is made at its place, if there is such a place.
-made : (c : tie.Joined1 Inv-loop μ-loop Inv-loop2 μ-loop2) → let a = c .before .before .before .before .before .before .args in (c .if1 .parties ≡ set (a .self .parties) (a .i .0) (a .e .party)) × (length (c .if1 .parties) ≡ 15)
+made : (c : tie.Joined1 Inv-loop μ-loop Inv-loop2 μ-loop2)
+    → let a = c .before .before .before .before .before .before .args in
+    (c .if1 .parties ≡ set (a .self .parties) (a .i .0) (a .e .party)) × (length (c .if1 .parties) ≡ 15)
 made c =
     let a = c .before .before .before .before .before .before .args in
     let z : length (a .self .parties) ≡ 15 = search (needs, length-of-map) in
@@ -101,8 +107,13 @@ loop-again c =
     let b = c .before .before .before in
     let j = b .before .before .before .before .before .before .before in
     let ps = j .if1 .parties in
-    let z = made j .1 in
-    (search needs, turn (λ k. each k (settled true) ps) (λ l. set l (b .loop .k) (settled true (at l (b .loop .k)))) (b .loop .k) (each-turn (b .loop .k) (settled true) ps (omega arith)) (b .loop .inv .1) (ap (λ q. set (b .loop .parties) (b .loop .k) q) (c .settled .ensures)), b .loop .inv .2)
+    let z = made j .1 in (
+      search needs,
+      turn (λ k. each k (settled true) ps) (λ l. set l (b .loop .k) (settled true (at l (b .loop .k))))
+          (b .loop .k) (each-turn (b .loop .k) (settled true) ps (omega arith)) (b .loop .inv .1)
+          (ap (λ q. set (b .loop .parties) (b .loop .k) q) (c .settled .ensures)),
+      b .loop .inv .2,
+    )
 
 loop2-holds : tie.Need-loop2-holds Inv-loop μ-loop Inv-loop2 μ-loop2
 loop2-holds c = search needs
@@ -133,8 +144,13 @@ loop2-again c =
     let b = c .before .before .before in
     let j = b .before .before .before .before .before .before .before in
     let ps = j .if1 .parties in
-    let z = made j .1 in
-    (search needs, turn (λ k. each k (settled false) ps) (λ l. set l (b .loop2 .k) (settled false (at l (b .loop2 .k)))) (b .loop2 .k) (each-turn (b .loop2 .k) (settled false) ps (omega arith)) (b .loop2 .inv .1) (ap (λ q. set (b .loop2 .parties) (b .loop2 .k) q) (c .settled2 .ensures)), b .loop2 .inv .2)
+    let z = made j .1 in (
+      search needs,
+      turn (λ k. each k (settled false) ps) (λ l. set l (b .loop2 .k) (settled false (at l (b .loop2 .k))))
+          (b .loop2 .k) (each-turn (b .loop2 .k) (settled false) ps (omega arith)) (b .loop2 .inv .1)
+          (ap (λ q. set (b .loop2 .parties) (b .loop2 .k) q) (c .settled2 .ensures)),
+      b .loop2 .inv .2,
+    )
 
 unless-requires : tie.Need-unless-requires Inv-loop μ-loop Inv-loop2 μ-loop2
 unless-requires c κs = search needs
@@ -152,10 +168,18 @@ returns c =
     let ps = g .if1 .parties in
     let e : j .if2 .parties ≡ each (a .self .count) (settled (a .atn)) ps =
     elim (j .if2 .came) [
-      | inl x ↦ rw (x .3, x .1 .inv .2) (all true ps (m .1) (a .self .count) (w .within .result) (x .1 .k) (w .within .ensures .0) (x .1 .inv .0) (x .2 .left) (x .1 .inv .1))
-      | inr x ↦ rw (x .3, x .1 .inv .2) (all false ps (m .1) (a .self .count) (w .within .result) (x .1 .k) (w .within .ensures .0) (x .1 .inv .0) (x .2 .left) (x .1 .inv .1))
+      | inl x ↦ rw (x .3, x .1 .inv .2) (all true ps (m .1) (a .self .count) (w .within .result) (x .1 .k)
+          (w .within .ensures .0) (x .1 .inv .0) (x .2 .left) (x .1 .inv .1))
+      | inr x ↦ rw (x .3, x .1 .inv .2) (all false ps (m .1) (a .self .count) (w .within .result) (x .1 .k)
+          (w .within .ensures .0) (x .1 .inv .0) (x .2 .left) (x .1 .inv .1))
     ] in
-    let o : w .before .is-left .result ≡ deserted (a .atn) ps (a .e .standing) = rw (w .before .is-left .ensures, w .before .before .is-source .ensures, w .before .before .before .before .sender-slot .ensures .0) (left-seat (a .atn) ps (a .e .standing) (m .1)) in
+    let o : w .before .is-left .result ≡ deserted (a .atn) ps (a .e .standing) = rw (
+      w .before .is-left .ensures,
+      w
+          .before .before .is-source .ensures,
+      w .before .before .before .before .sender-slot .ensures .0,
+    )
+    (left-seat (a .atn) ps (a .e .standing) (m .1)) in
     rw (c .answered .ensures, c .before .unless .ensures, e, o, m .0) refl
 
 pub settle-spec : {M : Type 1} → statement M

@@ -13,7 +13,8 @@ use Rattle.bus.proofs.building.placed.Statement.{statement}
 use Rattle.bus.proofs.building.placed.Tie as tie
 
 abbrev Inv-loop : tie.InvT-loop
-Inv-loop addresses secondaries out₀ k₀ out k = (k ≤ length addresses) × (out ≡ placed 15 (take k (names addresses secondaries)))
+Inv-loop addresses secondaries out₀ k₀ out k = (k ≤ length addresses)
+    × (out ≡ placed 15 (take k (names addresses secondaries)))
 
 abbrev μ-loop : tie.MeasureT-loop
 μ-loop addresses secondaries out₀ k₀ out k = length addresses - k
@@ -43,8 +44,12 @@ loop-again : tie.Need-loop-again Inv-loop μ-loop
 loop-again c =
     let b = c .before .before .before in
     let a = b .before .before .before .args in
-    let z = names-length (a .addresses .now) (a .secondaries .now) in
-    (search needs, place-turn (names (a .addresses .now) (a .secondaries .now)) (b .loop .k) (plain (address 0)) (omega arith) (omega arith) (b .loop .inv .1) (c .build .ensures ∙ ap builtParty (c .before .name-at .ensures)))
+    let z = names-length (a .addresses .now) (a .secondaries .now) in (
+      search needs,
+      place-turn (names (a .addresses .now) (a .secondaries .now)) (b .loop .k) (plain (address 0))
+          (omega arith) (omega arith) (b .loop .inv .1)
+          (c .build .ensures ∙ ap builtParty (c .before .name-at .ensures)),
+    )
 
 returns : tie.Need-returns Inv-loop μ-loop
 returns c =

@@ -46,14 +46,18 @@ loop-again : tie.Need-loop-again Inv-loop μ-loop
 loop-again c =
     let b = c .before .before .before in
     let rows = b .before .args .t1 in
-    let z : length rows ≡ 16 = search (needs, length-of-map) in
-    (search needs, turn partyOf _ rows (replicate 15 idle) (b .loop .k) (omega arith) (omega arith) (b .loop .inv .1) (c .party-of .ensures))
+    let z : length rows ≡ 16 = search (needs, length-of-map) in (
+      search needs,
+      turn partyOf _ rows (replicate 15 idle) (b .loop .k) (omega arith) (omega arith) (b .loop .inv .1)
+          (c .party-of .ensures),
+    )
 
 returns : tie.Need-returns Inv-loop μ-loop
 returns c =
     let b = c .before in
     let rows = b .before .args .t1 in
-    done partyOf rows (replicate 15 idle) 15 (b .loop .k) (b .loop .inv .0) (omega arith) (b .loop .inv .1) ∙ append-nil (map partyOf (take 15 rows))
+    done partyOf rows (replicate 15 idle) 15 (b .loop .k) (b .loop .inv .0) (omega arith) (b .loop .inv .1)
+    ∙ append-nil (map partyOf (take 15 rows))
 
 pub parties-of-spec : {M : Type 1} → statement M
 parties-of-spec =

@@ -13,7 +13,12 @@ returns-3 : tie.Need-returns-3
 returns-3 c = simp (c .byte-of3 .ensures, c .before .match .keys3)
 
 returns-4 : tie.Need-returns-4
-returns-4 c = simp (ne-eqb _ _ (c .match .rest .1), ne-eqb _ _ (c .match .rest .0 .1), ne-eqb _ _ (c .match .rest .0 .0 .1))
+returns-4 c = simp (
+  ne-eqb _ _ (c .match .rest .1),
+  ne-eqb _ _ (c .match .rest .0 .1),
+  ne-eqb _ _
+      (c .match .rest .0 .0 .1),
+)
 
 pub standing-of-spec : {M : Type 1} → statement M
 standing-of-spec =

@@ -20,7 +20,8 @@ returns c =
     (h .before .before .before .one4 .ensures .0 ∙ ap one (h .before .before .before .before .is-full .ensures))
     (h .before .before .slot-value .ensures)
     (h .one5 .ensures .0 ∙ ap one (h .before .slot-end .ensures))
-    (s .before .before .before .before .one6 .ensures .0 ∙ ap one (s .before .before .before .before .before .is-full2 .ensures))
+    (s .before .before .before .before .one6 .ensures .0
+    ∙ ap one (s .before .before .before .before .before .is-full2 .ensures))
     (s .before .before .before .slot-value2 .ensures)
     (s .before .one7 .ensures .0 ∙ ap one (s .before .before .slot-end2 .ensures))
     (s .service-number .ensures)

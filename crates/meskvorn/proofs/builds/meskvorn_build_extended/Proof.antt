@@ -4,7 +4,8 @@ use Rattle.meskvorn.proofs.builds.meskvorn_build_extended.Statement.{st
 use Rattle.meskvorn.proofs.builds.meskvorn_build_extended.Tie as tie
 
 returns : tie.Need-returns
-returns c = answered (c .before .before .before .build-extended .ensures) (c .packed .ensures) (c .before .rows-of .ensures)
+returns c = answered (c .before .before .before .build-extended .ensures) (c .packed .ensures)
+    (c .before .rows-of .ensures)
 
 pub meskvorn-build-extended-spec : {M : Type 1} → statement M
 meskvorn-build-extended-spec = tie.close (tie.spec

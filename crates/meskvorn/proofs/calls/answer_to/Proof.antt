@@ -12,7 +12,8 @@ returns c = rw (eq-eqb _ _ (c .before .if1 .taken)) (c .refuse .ensures)
 
 returns-2 : tie.Need-returns-2
 unfolding answerTo
-returns-2 c = rw (ne-eqb _ _ (c .before .before .if1 .left)) (c .obey .ensures ∙ ap (obey (c .before .before .before .args .b)) (c .before .order-of .ensures))
+returns-2 c = rw (ne-eqb _ _ (c .before .before .if1 .left))
+    (c .obey .ensures ∙ ap (obey (c .before .before .before .args .b)) (c .before .order-of .ensures))
 
 pub answer-to-spec : {M : Type 1} → statement M
 answer-to-spec =

@@ -6,7 +6,9 @@ use Rattle.meskvorn.proofs.drivers.meskvorn_drivers.Tie as tie
 returns : tie.Need-returns
 returns c =
     let d = c .before .before .before .before .before .before .before .before in
-    counted (rw (d .before .bus-of .ensures) at (d .drivers .ensures)) (c .packed .ensures) (c .before .before .mask-list .ensures) (c .before .count-list .ensures) (c .before .before .before .rows-of .ensures)
+    counted (rw (d .before .bus-of .ensures) at (d .drivers .ensures)) (c .packed .ensures)
+    (c .before .before .mask-list .ensures) (c .before .count-list .ensures)
+    (c .before .before .before .rows-of .ensures)
 
 pub meskvorn-drivers-spec : {M : Type 1} → statement M
 meskvorn-drivers-spec =

@@ -6,7 +6,8 @@ use Rattle.meskvorn.proofs.host.meskvorn_call.Tie as tie
 returns : tie.Need-returns
 returns c =
     let d = c .before .before .before in
-    answered (rw (d .before .bus-of .ensures) at (d .answer-to .ensures)) (c .packed .ensures) (c .before .rows-of .ensures)
+    answered (rw (d .before .bus-of .ensures) at (d .answer-to .ensures)) (c .packed .ensures)
+    (c .before .rows-of .ensures)
 
 pub meskvorn-call-spec : {M : Type 1} → statement M
 meskvorn-call-spec =

@@ -7,7 +7,8 @@ use Rattle.meskvorn.proofs.turns.meskvorn_turns.Tie as tie
 returns : tie.Need-returns
 returns c =
     let d = c .before .before .before .before in
-    gave (rw (d .before .bus-of .ensures) at (d .give-turns .ensures)) (c .number .ensures) refl (c .before .rows-of .ensures)
+    gave (rw (d .before .bus-of .ensures) at (d .give-turns .ensures)) (c .number .ensures) refl
+    (c .before .rows-of .ensures)
 
 pub meskvorn-turns-spec : {M : Type 1} → statement M
 meskvorn-turns-spec =

@@ -48,8 +48,12 @@ loop-again c =
     let b = c .before .before .before in
     let ps = b .before .before .args .ps in
     let f = changed (b .before .before .args .c) in
-    let z : length ps ≡ 15 = search (needs, length-of-map) in
-    (search needs, turn (λ k. each k f ps) (λ l. set l (b .loop .k) (f (at l (b .loop .k)))) (b .loop .k) (each-turn (b .loop .k) f ps (omega arith)) (b .loop .inv .1) (ap (λ q. set (b .loop .out) (b .loop .k) q) (c .changed .ensures)))
+    let z : length ps ≡ 15 = search (needs, length-of-map) in (
+      search needs,
+      turn (λ k. each k f ps) (λ l. set l (b .loop .k) (f (at l (b .loop .k)))) (b .loop .k)
+          (each-turn (b .loop .k) f ps (omega arith)) (b .loop .inv .1)
+          (ap (λ q. set (b .loop .out) (b .loop .k) q) (c .changed .ensures)),
+    )
 
 returns : tie.Need-returns Inv-loop μ-loop
 returns c =
@@ -57,7 +61,10 @@ returns c =
     let ps = b .before .before .args .ps in
     let f = changed (b .before .before .args .c) in
     let z : length ps ≡ 15 = search (needs, length-of-map) in
-    done (λ k. each k f ps) (b .before .before .args .count) (b .before .within .result) (b .loop .k) (all-15 (λ k. each k f ps) (b .before .before .args .count) ps z (each-all (b .before .before .args .count) f ps)) (b .before .within .ensures .0) (b .loop .inv .0) (omega arith) (b .loop .inv .1)
+    done (λ k. each k f ps) (b .before .before .args .count) (b .before .within .result) (b .loop .k)
+    (all-15 (λ k. each k f ps) (b .before .before .args .count) ps z
+    (each-all (b .before .before .args .count) f ps)) (b .before .within .ensures .0) (b .loop .inv .0)
+    (omega arith) (b .loop .inv .1)
 
 pub change-all-spec : {M : Type 1} → statement M
 change-all-spec =

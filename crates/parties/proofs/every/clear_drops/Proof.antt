@@ -46,7 +46,9 @@ loop-again c =
     let ps = b .before .before .args .t1 in
     let z : length ps ≡ 15 = search (needs, length-of-map) in (
       search needs,
-      turn (λ k. total k clearDrops ps) (λ x. x + clearDrops (at ps (b .loop .k))) (b .loop .k) (total-suc (b .loop .k) clearDrops ps (omega arith)) (b .loop .inv .1) (ap (λ x. b .loop .sum + x) (c .clear-drops .ensures .0)),
+      turn (λ k. total k clearDrops ps) (λ x. x + clearDrops (at ps (b .loop .k))) (b .loop .k)
+          (total-suc (b .loop .k) clearDrops ps (omega arith)) (b .loop .inv .1)
+          (ap (λ x. b .loop .sum + x) (c .clear-drops .ensures .0)),
       omega arith,
     )
 
@@ -55,7 +57,10 @@ returns c =
     let b = c .before in
     let ps = b .before .before .args .t1 in
     let z : length ps ≡ 15 = search (needs, length-of-map) in (
-      done (λ k. total k clearDrops ps) (b .before .before .args .count) (b .before .within .result) (b .loop .k) (all-15 (λ k. total k clearDrops ps) (b .before .before .args .count) ps z (total-all (b .before .before .args .count) clearDrops ps)) (b .before .within .ensures .0) (b .loop .inv .0) (omega arith) (b .loop .inv .1),
+      done (λ k. total k clearDrops ps) (b .before .before .args .count) (b .before .within .result) (b .loop .k)
+          (all-15 (λ k. total k clearDrops ps) (b .before .before .args .count) ps z
+          (total-all (b .before .before .args .count) clearDrops ps)) (b .before .within .ensures .0) (b .loop .inv .0)
+          (omega arith) (b .loop .inv .1),
       omega arith,
     )
 

@@ -15,7 +15,11 @@ returns c =
     let e = w .0 in
     let l = w .1 in
     let h : a .p .0 < within (a .count) = omega arith in
-    shifted (a .p .0) (omega arith) ∙ rw (bit-alone (within (a .count)) (a .p .0), lt-ltb (a .p .0) (within (a .count)) h) refl
+    shifted (a .p .0) (omega arith) ∙ rw (
+      bit-alone (within (a .count)) (a .p .0),
+      lt-ltb (a .p .0) (within (a .count))
+          h,
+    ) refl
 
 returns-2 : tie.Need-returns-2
 returns-2 c =

@@ -11,7 +11,8 @@ returns : tie.Need-returns
 returns c = rw (eq-eqb (c .before .args .m) 0 (c .if1 .taken)) refl
 
 returns-2 : tie.Need-returns-2
-returns-2 c = let m = c .before .args .m in let l = trailing-le 16 m in rw (mod-eq-of-lt {n = trailingZeros 16 m} {m = 256} (omega arith), ne-eqb m 0 (c .if1 .left)) refl
+returns-2 c = let m = c .before .args .m in let l = trailing-le 16 m in
+    rw (mod-eq-of-lt {n = trailingZeros 16 m} {m = 256} (omega arith), ne-eqb m 0 (c .if1 .left)) refl
 
 pub first-of-spec : {M : Type 1} → statement M
 first-of-spec = tie.close (tie.spec

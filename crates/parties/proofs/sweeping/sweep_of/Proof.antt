@@ -41,11 +41,16 @@ loop-less c = search needs
 loop-again : tie.Need-loop-again Inv-loop μ-loop
 loop-again c =
     let b = c .before .before .before in
-    let a = b .before .before .args in
-    (omega arith, b .loop .inv .1, swept-down (within (a .count)) (b .loop .k) (a .t1) (omega arith) (b .loop .inv .0) (b .loop .inv .1) (b .loop .inv .2) (c .swept-by .ensures))
+    let a = b .before .before .args in (
+      omega arith,
+      b .loop .inv .1,
+      swept-down (within (a .count)) (b .loop .k) (a .t1) (omega arith) (b .loop .inv .0)
+          (b .loop .inv .1) (b .loop .inv .2) (c .swept-by .ensures),
+    )
 
 returns : tie.Need-returns Inv-loop μ-loop
-returns c = let b = c .before in let a = b .before .before .args in swept-all (within (a .count)) (b .loop .k) (a .t1) (omega arith) (b .loop .inv .2)
+returns c = let b = c .before in let a = b .before .before .args in
+    swept-all (within (a .count)) (b .loop .k) (a .t1) (omega arith) (b .loop .inv .2)
 
 pub sweep-of-spec : {M : Type 1} → statement M
 sweep-of-spec =
