@@ -67,7 +67,8 @@ static void print_answer(char text[64], meskvorn_answer answer)
     if (answer.event > MESKVORN_EVENT_MOVED || answer.byte != 0) {
         snprintf(byte, sizeof byte, "%02x", answer.byte);
     }
-    snprintf(text, 64, "%d %s %s %d %d %d", (int)answer.refusal, meskvorn_event_word(answer.event), byte, answer.end, answer.dropped, answer.broken);
+    snprintf(text, 64, "%d %s %s %d %d %d", (int)answer.refusal, meskvorn_event_word(answer.event), byte, answer.end,
+             answer.dropped, answer.broken);
 }
 
 /* Also: nothing beside the bus was touched, and the bus itself not by a refusal, except that of a build. */

@@ -1,4 +1,5 @@
-/* The drivers of the lines through meskvorn.h: which parties hold each line, how many they are, and the bus after the call.
+/* The drivers of the lines through meskvorn.h: which parties hold each line, how many they are, and the bus after the
+ * call.
  * What is expected is worked out from document 01 and from document 02's Q-4. */
 #include "check.h"
 
@@ -26,7 +27,8 @@ static uint32_t ones(uint16_t mask)
     return count;
 }
 
-/* The proved function on a copy of the bus: it writes six masks and six counts, and leaves the bus that the lines leave. */
+/* The proved function on a copy of the bus: it writes six masks and six counts, and leaves the bus that the lines
+ * leave. */
 static meskvorn_answer ask_at(int line, told *drivers)
 {
     meskvorn_bus copy = *bus, beside = *bus;
@@ -52,8 +54,10 @@ static int parties_agree(const meskvorn_drivers_answer *drivers, meskvorn_line l
     return agree;
 }
 
-/* The masks of the six lines; a line is on where its mask is not 0. A call that leads here has settled the bus, so asking leaves it as it is. */
-static void expect_drivers_at(int line, uint16_t atn, uint16_t dav, uint16_t nrfd, uint16_t ndac, uint16_t eoi, uint16_t srq)
+/* The masks of the six lines; a line is on where its mask is not 0. A call that leads here has settled the bus, so
+ * asking leaves it as it is. */
+static void expect_drivers_at(int line, uint16_t atn, uint16_t dav, uint16_t nrfd, uint16_t ndac, uint16_t eoi,
+                              uint16_t srq)
 {
     const uint16_t wanted[MESKVORN_LINES] = {atn, dav, nrfd, ndac, eoi, srq};
     told raw;
@@ -65,15 +69,18 @@ static void expect_drivers_at(int line, uint16_t atn, uint16_t dav, uint16_t nrf
     check_at(line, memcmp(bus, &last, sizeof last) == 0, "asking changes nothing");
     expect_at(line, NONE, drivers.answer);
     for (index = 0; index < MESKVORN_LINES; index++) {
-        check_at(line, drivers.masks[index] == wanted[index] && raw.masks[index] == wanted[index], "the parties that drive a line");
-        check_at(line, drivers.counts[index] == ones(wanted[index]) && raw.counts[index] == ones(wanted[index]), "how many they are");
+        check_at(line, drivers.masks[index] == wanted[index] && raw.masks[index] == wanted[index],
+                 "the parties that drive a line");
+        check_at(line, drivers.counts[index] == ones(wanted[index]) && raw.counts[index] == ones(wanted[index]),
+                 "how many they are");
         check_at(line, parties_agree(&drivers, (meskvorn_line)index, wanted[index]), "whether a party drives a line");
         lines = (uint8_t)(lines | (wanted[index] != 0 ? line_bits[index] : 0));
     }
     check_at(line, meskvorn_bus_lines(bus).byte == lines, "a line is on where it has a driver");
 }
 
-#define EXPECT_DRIVERS(atn, dav, nrfd, ndac, eoi, srq) expect_drivers_at(__LINE__, (atn), (dav), (nrfd), (ndac), (eoi), (srq))
+#define EXPECT_DRIVERS(atn, dav, nrfd, ndac, eoi, srq) \
+    expect_drivers_at(__LINE__, (atn), (dav), (nrfd), (ndac), (eoi), (srq))
 
 /* Document 01's script, record by record: party 0 talks, party 1 listens. */
 static void worked_script(void)
@@ -279,7 +286,8 @@ static void null_pointers(void)
     CHECK(meskvorn_is_driven_by(&drivers, (meskvorn_line)7, 0) == 0);
 }
 
-/* Whatever the memory held, the drivers are those of the bus as it is found, and so are the lines. A standing byte's sender may be no party there. */
+/* Whatever the memory held, the drivers are those of the bus as it is found, and so are the lines. A standing byte's
+ * sender may be no party there. */
 static void expect_any_bus(void)
 {
     told drivers;

@@ -1,4 +1,5 @@
-/* A host: it builds a bus of two parties, gives them their turns one after the other, and reads with one what the other wrote. */
+/* A host: it builds a bus of two parties, gives them their turns one after the other, and reads with one what the other
+ * wrote. */
 #include <stdio.h>
 #include <stdlib.h>
 

@@ -1,8 +1,9 @@
-/* The GPIB bus of document 01 for C and C++ programs. Link libmeskvorn.a, which `rt staticlib meskvorn` writes to target/staticlib.
+/* The GPIB bus of document 01 for C and C++ programs. Link libmeskvorn.a, which `rt staticlib meskvorn` writes to
+ * target/staticlib.
  *
- * meskvorn_call, meskvorn_build, meskvorn_build_extended, meskvorn_name, meskvorn_turns, meskvorn_drivers and meskvorn_run are the proved functions,
- * for pointers that are valid for their lengths and do not overlap. The inline functions below them take the answer apart and take NULL as well; they
- * are tested. */
+ * meskvorn_call, meskvorn_build, meskvorn_build_extended, meskvorn_name, meskvorn_turns, meskvorn_drivers and
+ * meskvorn_run are the proved functions, for pointers that are valid for their lengths and do not overlap. The inline
+ * functions below them take the answer apart and take NULL as well; they are tested. */
 #ifndef MESKVORN_H
 #define MESKVORN_H
 
@@ -16,7 +17,8 @@ extern "C" {
 /* The bytes in a row of a bus, of which a party has one. */
 enum { MESKVORN_ROW = 24 };
 
-/* A bus, in memory of the program's own, which may be copied and moved. Zeros are the bus of no parties; any content is read as some bus. */
+/* A bus, in memory of the program's own, which may be copied and moved. Zeros are the bus of no parties; any content is
+ * read as some bus. */
 typedef struct meskvorn_bus {
     uint8_t rows[16][MESKVORN_ROW];
 } meskvorn_bus;
@@ -116,44 +118,51 @@ typedef struct meskvorn_answer {
     uint8_t broken;
 } meskvorn_answer;
 
-/* What a build named a party: present is 0 where there is no such party, and 1 otherwise. A party without a secondary address has
- * MESKVORN_NO_SECONDARY. */
+/* What a build named a party: present is 0 where there is no such party, and 1 otherwise. A party without a secondary
+ * address has MESKVORN_NO_SECONDARY. */
 typedef struct meskvorn_party_name {
     uint8_t present;
     uint8_t address;
     uint8_t secondary;
 } meskvorn_party_name;
 
-/* Of the drivers: for each line a mask with a bit for each party that drives it, party 0 lowest, and how many they are. */
+/* Of the drivers: for each line a mask with a bit for each party that drives it, party 0 lowest, and how many they
+ * are. */
 typedef struct meskvorn_drivers_answer {
     meskvorn_answer answer;
     uint16_t masks[MESKVORN_LINES];
     uint32_t counts[MESKVORN_LINES];
 } meskvorn_drivers_answer;
 
-/* The proved functions. No pointer may be NULL. The first three take the rows of a bus and give the answer as a number: from the low byte up refusal,
- * event, byte, END, dropped, broken. An operation that is none of the thirteen is refused with 3. Whatever the rows held, a build leaves the bus that it
- * asks for, or the bus of no parties where it is refused. */
+/* The proved functions. No pointer may be NULL. The first three take the rows of a bus and give the answer as a number:
+ * from the low byte up refusal, event, byte, END, dropped, broken. An operation that is none of the thirteen is refused
+ * with 3. Whatever the rows held, a build leaves the bus that it asks for, or the bus of no parties where it is
+ * refused. */
 uint64_t meskvorn_call(uint8_t (*rows)[MESKVORN_ROW], uint8_t operation, uint8_t party, uint8_t value, uint8_t extra);
 uint64_t meskvorn_build(uint8_t (*rows)[MESKVORN_ROW], const uint8_t *addresses, size_t count, uint8_t system);
 
-/* A build in which the party with number i has the address addresses[i] and the secondary address secondaries[i]. It has none if that is
- * MESKVORN_NO_SECONDARY or if fewer secondaries are given; those past the last address are ignored. */
-uint64_t meskvorn_build_extended(uint8_t (*rows)[MESKVORN_ROW], const uint8_t *addresses, size_t count, const uint8_t *secondaries, size_t given,
-                                 uint8_t system);
+/* A build in which the party with number i has the address addresses[i] and the secondary address secondaries[i]. It
+ * has none if that is MESKVORN_NO_SECONDARY or if fewer secondaries are given; those past the last address are
+ * ignored. */
+uint64_t meskvorn_build_extended(uint8_t (*rows)[MESKVORN_ROW], const uint8_t *addresses, size_t count,
+                                 const uint8_t *secondaries, size_t given, uint8_t system);
 
-/* What a build named the party: the low byte is its address, the high byte its secondary address or MESKVORN_NO_SECONDARY. */
+/* What a build named the party: the low byte is its address, the high byte its secondary address or
+ * MESKVORN_NO_SECONDARY. */
 uint16_t meskvorn_name(const uint8_t (*rows)[MESKVORN_ROW], uint8_t party);
 
-/* Gives so many turns on the bus, each to the party that has waited longest for one since the call began, of equals to the lowest. Writes how many
- * turns each of the fifteen places had, and gives the refusal: 0, or 1 on the bus of no parties, where all counts are 0. */
+/* Gives so many turns on the bus, each to the party that has waited longest for one since the call began, of equals to
+ * the lowest. Writes how many turns each of the fifteen places had, and gives the refusal: 0, or 1 on the bus of no
+ * parties, where all counts are 0. */
 uint8_t meskvorn_turns(uint8_t (*rows)[MESKVORN_ROW], uint16_t turns, uint16_t *counts);
 
-/* Writes which parties drive each line, and how many they are, as the call finds the bus; there is an entry for each line. It is never refused, leaves
- * the bus as the lines do, and gives its answer as a number like the first three, with the event none. No operation of meskvorn_call stands for it. */
+/* Writes which parties drive each line, and how many they are, as the call finds the bus; there is an entry for each
+ * line. It is never refused, leaves the bus as the lines do, and gives its answer as a number like the first three,
+ * with the event none. No operation of meskvorn_call stands for it. */
 uint64_t meskvorn_drivers(uint8_t (*rows)[MESKVORN_ROW], uint16_t *masks, uint32_t *counts);
 
-/* Runs a script and writes its text at the start of out, if out has 34 bytes for each record and part of one. Gives the number of bytes written. */
+/* Runs a script and writes its text at the start of out, if out has 34 bytes for each record and part of one. Gives the
+ * number of bytes written. */
 size_t meskvorn_run(const uint8_t *script, size_t length, uint8_t *out, size_t room);
 
 static inline meskvorn_answer meskvorn_answer_of(uint64_t packed)
@@ -176,10 +185,12 @@ static inline const char *meskvorn_event_word(meskvorn_event event)
     return (size_t)event < sizeof words / sizeof words[0] ? words[event] : "";
 }
 
-/* From here on a NULL bus, and NULL for a list that is not empty, is answered with MESKVORN_REFUSAL_RECORD, and nothing is written. */
+/* From here on a NULL bus, and NULL for a list that is not empty, is answered with MESKVORN_REFUSAL_RECORD, and nothing
+ * is written. */
 
 /* The party with number i gets addresses[i]. */
-static inline meskvorn_answer meskvorn_bus_build(meskvorn_bus *bus, const uint8_t *addresses, size_t count, uint8_t system)
+static inline meskvorn_answer meskvorn_bus_build(meskvorn_bus *bus, const uint8_t *addresses, size_t count,
+                                                 uint8_t system)
 {
     static const uint8_t none = 0;
     if (bus == NULL || (addresses == NULL && count != 0)) {
@@ -188,10 +199,10 @@ static inline meskvorn_answer meskvorn_bus_build(meskvorn_bus *bus, const uint8_
     return meskvorn_answer_of(meskvorn_build(bus->rows, addresses == NULL ? &none : addresses, count, system));
 }
 
-/* The party with number i gets addresses[i] and secondaries[i], or no secondary address if that is MESKVORN_NO_SECONDARY. NULL for the secondaries
- * gives none to anybody. */
-static inline meskvorn_answer meskvorn_bus_build_extended(meskvorn_bus *bus, const uint8_t *addresses, const uint8_t *secondaries, size_t count,
-                                                          uint8_t system)
+/* The party with number i gets addresses[i] and secondaries[i], or no secondary address if that is
+ * MESKVORN_NO_SECONDARY. NULL for the secondaries gives none to anybody. */
+static inline meskvorn_answer meskvorn_bus_build_extended(meskvorn_bus *bus, const uint8_t *addresses,
+                                                          const uint8_t *secondaries, size_t count, uint8_t system)
 {
     static const uint8_t none = 0;
     size_t given = secondaries == NULL ? 0 : count;
@@ -214,7 +225,8 @@ static inline meskvorn_party_name meskvorn_bus_name(const meskvorn_bus *bus, uin
 }
 
 /* An operation by its number. */
-static inline meskvorn_answer meskvorn_bus_call(meskvorn_bus *bus, uint8_t operation, uint8_t party, uint8_t value, uint8_t extra)
+static inline meskvorn_answer meskvorn_bus_call(meskvorn_bus *bus, uint8_t operation, uint8_t party, uint8_t value,
+                                                uint8_t extra)
 {
     if (bus == NULL) {
         return meskvorn_answer_of(MESKVORN_REFUSAL_RECORD);
@@ -320,7 +332,8 @@ static inline int meskvorn_is_driven_by(const meskvorn_drivers_answer *drivers, 
 }
 
 /* meskvorn_turns, where counts has room for fifteen, or is NULL if they are not wanted. */
-static inline meskvorn_refusal meskvorn_bus_give_turns(meskvorn_bus *bus, uint16_t turns, uint16_t counts[MESKVORN_MOST_PARTIES])
+static inline meskvorn_refusal meskvorn_bus_give_turns(meskvorn_bus *bus, uint16_t turns,
+                                                       uint16_t counts[MESKVORN_MOST_PARTIES])
 {
     uint16_t unwanted[MESKVORN_MOST_PARTIES];
     if (bus == NULL) {

@@ -1,8 +1,10 @@
-/* The second request bit through meskvorn.h: SRQ, the status bytes of a poll and of the next, and what takes a request back.
+/* The second request bit through meskvorn.h: SRQ, the status bytes of a poll and of the next, and what takes a request
+ * back.
  * What is expected is worked out from document 01 and from document 02's Q-5. */
 #include "check.h"
 
-/* The active party 0 sends one command to its end. From AWNS party 1 has two turns to ACRS, and two to take and let go. */
+/* The active party 0 sends one command to its end. From AWNS party 1 has two turns to ACRS, and two to take and let
+ * go. */
 static void command(uint8_t byte)
 {
     EXPECT(NONE, meskvorn_bus_write(bus, 0, byte, 0));
@@ -30,7 +32,8 @@ static void addressed(uint8_t value)
 static void expect_srq_at(int line, int on)
 {
     meskvorn_answer lines = meskvorn_bus_lines(bus);
-    check_at(line, lines.event == MESKVORN_EVENT_LINES && ((lines.byte & MESKVORN_LINE_SRQ) != 0) == on, on ? "SRQ is on" : "SRQ is off");
+    check_at(line, lines.event == MESKVORN_EVENT_LINES && ((lines.byte & MESKVORN_LINE_SRQ) != 0) == on,
+             on ? "SRQ is on" : "SRQ is off");
     last = *bus;
 }
 
@@ -169,7 +172,8 @@ static void switched_off(void)
     EXPECT_POLL(0x01);
 }
 
-/* On in a poll that began in NPRS it is a request for after that poll; in APRS, after its byte, one that the next poll tells of without SRQ. */
+/* On in a poll that began in NPRS it is a request for after that poll; in APRS, after its byte, one that the next poll
+ * tells of without SRQ. */
 static void switched_on_in_a_poll(void)
 {
     addressed(0x01);
@@ -258,8 +262,10 @@ static void polls_by_runs(void)
 
 static void scripts(void)
 {
-    static const uint8_t script[] = {0x47, 0x42, 0,  0, 2, 5, 0x47, 0x42, 13, 1, 1, 9, 0x47, 0x42, 12, 0, 0, 0, 0x47, 0x42, 13, 1, 2, 0,
-                                     0x47, 0x42, 13, 2, 2, 0, 0x47, 0x42, 13, 1, 0, 0, 0x47, 0x42, 12, 0, 0, 0, 0x47, 0x42, 14, 1, 0, 0};
+    static const uint8_t script[] = {0x47, 0x42, 0,  0, 2, 5, 0x47, 0x42, 13, 1, 1, 9,
+                                     0x47, 0x42, 12, 0, 0, 0, 0x47, 0x42, 13, 1, 2, 0,
+                                     0x47, 0x42, 13, 2, 2, 0, 0x47, 0x42, 13, 1, 0, 0,
+                                     0x47, 0x42, 12, 0, 0, 0, 0x47, 0x42, 14, 1, 0, 0};
     static const char wanted[] = "1 0 none -- 0 0 0\n2 0 none -- 0 0 0\n3 0 lines 04 0 0 0\n4 3 none -- 0 0 0\n"
                                  "5 1 none -- 0 0 0\n6 0 none -- 0 0 0\n7 0 lines 00 0 0 0\n8 3 none -- 0 0 0\n";
     uint8_t out[8 * 34];

@@ -38,8 +38,8 @@ static void commands(const char *text)
     }
 }
 
-/* T for a party that talks, L for one that listens, else a dot, told by copies of the bus: listen-only is refused with 4 to a talker, and talk-only
- * to a listener. */
+/* T for a party that talks, L for one that listens, else a dot, told by copies of the bus: listen-only is refused with
+ * 4 to a talker, and talk-only to a listener. */
 static void expect_roles_at(int line, const char *wanted)
 {
     char roles[PARTIES + 1] = {0};
@@ -183,15 +183,18 @@ static void data_status_and_control(void)
     EXPECT(NONE, meskvorn_bus_go_to_standby(bus, 2));
 }
 
-static void expect_build_at(int line, const char *wanted, uint8_t first, uint8_t first_own, uint8_t other, uint8_t other_own)
+static void expect_build_at(int line, const char *wanted, uint8_t first, uint8_t first_own, uint8_t other,
+                            uint8_t other_own)
 {
     const uint8_t two[2] = {first, other}, own[2] = {first_own, other_own};
     expect_at(line, wanted, meskvorn_bus_build_extended(bus, two, own, 2, 1));
-    check_at(line, (strcmp(wanted, NONE) == 0) != (memcmp(bus, &no_parties, sizeof *bus) == 0), "a refused build leaves no parties");
+    check_at(line, (strcmp(wanted, NONE) == 0) != (memcmp(bus, &no_parties, sizeof *bus) == 0),
+             "a refused build leaves no parties");
 }
 
 /* A build of two parties, each by its address and its secondary. */
-#define EXPECT_BUILD(wanted, first, first_own, other, other_own) expect_build_at(__LINE__, (wanted), (first), (first_own), (other), (other_own))
+#define EXPECT_BUILD(wanted, first, first_own, other, other_own) \
+    expect_build_at(__LINE__, (wanted), (first), (first_own), (other), (other_own))
 
 static void builds_of_two(void)
 {

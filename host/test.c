@@ -1,5 +1,7 @@
-/* The archive through meskvorn.h: document 01's examples P1 to P12 call by call, every operation and refusal, NULL, and buffers with no room.
- * What is expected is worked out from document 01, and written as busrun prints it: refusal, event, byte, END, dropped, broken. */
+/* The archive through meskvorn.h: document 01's examples P1 to P12 call by call, every operation and refusal, NULL, and
+ * buffers with no room.
+ * What is expected is worked out from document 01, and written as busrun prints it: refusal, event, byte, END, dropped,
+ * broken. */
 #include "check.h"
 
 /* Party 0 talks, party 1 listens; the byte 41 with END stands. */
@@ -256,9 +258,9 @@ static const uint8_t worked[] = {
     0x47, 0x42, 1, 0, 0, 0, 0x47, 0x42, 1, 1, 0, 0, 0x47, 0x42, 1, 0, 0, 0, 0x47, 0x42, 3, 1, 0, 0,
 };
 
-static const char worked_text[] = "1 0 none -- 0 0 0\n2 0 none -- 0 0 0\n3 0 none -- 0 0 0\n4 0 none -- 0 0 0\n5 0 moved -- 0 0 0\n"
-                                  "6 0 moved -- 0 0 0\n7 0 data 41 1 0 0\n8 0 took 41 1 0 0\n9 0 none -- 0 0 0\n10 0 moved -- 0 0 0\n"
-                                  "11 0 ended 41 1 0 0\n12 0 read 41 1 0 0\n";
+static const char worked_text[] = "1 0 none -- 0 0 0\n2 0 none -- 0 0 0\n3 0 none -- 0 0 0\n4 0 none -- 0 0 0\n"
+                                  "5 0 moved -- 0 0 0\n6 0 moved -- 0 0 0\n7 0 data 41 1 0 0\n8 0 took 41 1 0 0\n"
+                                  "9 0 none -- 0 0 0\n10 0 moved -- 0 0 0\n11 0 ended 41 1 0 0\n12 0 read 41 1 0 0\n";
 
 enum { ROOM = 12 * 34 };
 
@@ -295,7 +297,8 @@ static void any_content(void)
             memset(bus, content, sizeof *bus);
             packed = meskvorn_call(bus->rows, operation, (uint8_t)(content % 16), 1, 1);
             answer = meskvorn_answer_of(packed);
-            CHECK(answer.refusal < MESKVORN_REFUSAL_RECORD && answer.event <= MESKVORN_EVENT_LINES && answer.end <= 1 && packed >> 48 == 0);
+            CHECK(answer.refusal < MESKVORN_REFUSAL_RECORD && answer.event <= MESKVORN_EVENT_LINES && answer.end <= 1 &&
+                  packed >> 48 == 0);
             CHECK(filled(memory.before, GUARD) && filled(memory.after, GUARD));
         }
         EXPECT(REFUSED(2), meskvorn_bus_build(bus, addresses, 16, 0));

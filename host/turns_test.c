@@ -3,7 +3,8 @@
 #include "check.h"
 
 /* A run that is to be answered with this refusal, and with these counts for parties 0, 1 and 2; all others are 0. */
-static void expect_turns_at(int line, uint16_t turns, meskvorn_refusal refusal, uint16_t first, uint16_t second, uint16_t third)
+static void expect_turns_at(int line, uint16_t turns, meskvorn_refusal refusal, uint16_t first, uint16_t second,
+                            uint16_t third)
 {
     struct {
         uint16_t before, counts[MESKVORN_MOST_PARTIES], after;
@@ -15,7 +16,9 @@ static void expect_turns_at(int line, uint16_t turns, meskvorn_refusal refusal, 
     memset(&told, FILL, sizeof told);
     check_at(line, meskvorn_bus_give_turns(bus, turns, told.counts) == refusal, "the refusal of the run");
     check_at(line, memcmp(told.counts, wanted, sizeof wanted) == 0, "the counts of the run");
-    check_at(line, filled((uint8_t *)&told.before, sizeof told.before) && filled((uint8_t *)&told.after, sizeof told.after), "no sixteenth count");
+    check_at(line,
+             filled((uint8_t *)&told.before, sizeof told.before) && filled((uint8_t *)&told.after, sizeof told.after),
+             "no sixteenth count");
     check_at(line, filled(memory.before, GUARD) && filled(memory.after, GUARD), "the bus keeps to its memory");
     if (turns == 0 || refusal != MESKVORN_REFUSAL_ACCEPTED) {
         check_at(line, memcmp(bus, &last, sizeof last) == 0, "a run of no turns or a refused one changes nothing");
@@ -23,7 +26,8 @@ static void expect_turns_at(int line, uint16_t turns, meskvorn_refusal refusal, 
     last = *bus;
 }
 
-#define EXPECT_TURNS(turns, refusal, first, second, third) expect_turns_at(__LINE__, (turns), (refusal), (first), (second), (third))
+#define EXPECT_TURNS(turns, refusal, first, second, third) \
+    expect_turns_at(__LINE__, (turns), (refusal), (first), (second), (third))
 
 /* Party 0 has a byte for party 1, as in document 01's script before its steps. */
 static void offer(size_t parties)
@@ -34,7 +38,8 @@ static void offer(size_t parties)
     EXPECT(NONE, meskvorn_bus_write(bus, 0, 0x41, 1));
 }
 
-/* The seven steps of document 01's script are one run: 0, 1, 0, 1, 0, 1, 0. Six leave the byte standing, let go of by its listener. */
+/* The seven steps of document 01's script are one run: 0, 1, 0, 1, 0, 1, 0. Six leave the byte standing, let go of by
+ * its listener. */
 static void p1_by_a_run(void)
 {
     meskvorn_bus after_steps;
