@@ -1,10 +1,9 @@
--- P1 to P12 hold, and so do the examples of secondary addresses and of who drives the lines: the machine computes them.
+-- P1 to P12 hold, and so do the examples of secondary addresses: the machine computes them.
 -- Assumes nothing.
 use mathlib.Core.Path.{refl}
 use Rattle.message.specs.Meaning.{meaningOf, sevenBits, named}
 use Rattle.bus.specs.Examples.{Examples}
 use Rattle.bus.specs.Secondaries.{SecondaryExamples}
-use Rattle.bus.specs.Held.{DriverExamples}
 
 pub examples : Examples
 unfolding meaningOf sevenBits named
@@ -13,7 +12,3 @@ examples = refl
 pub secondary-examples : SecondaryExamples
 unfolding meaningOf sevenBits named
 secondary-examples = refl
-
-pub driver-examples : DriverExamples
-unfolding meaningOf sevenBits named
-driver-examples = refl

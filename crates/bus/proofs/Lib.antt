@@ -40,8 +40,7 @@
 -- Built, Theorem, Reached. An accepted build gives the invariant, so `delivery` holds from every build. Reached has the
 -- facts of every reachable bus that later work cites.
 --
--- Driving. Who drives each line (specs/Drivers.antt): laws of masks, and of reachable buses that a line is on where it
--- is driven, and that ATN and DAV have one driver, by `delivery`.
+-- Driving. The ones of a mask are as many as the parties that drive its line. crates/driver_laws has the laws about it.
 --
 -- The folders hold the proofs of the functions in src/, each under its own name.
 -- Assumes nothing.

@@ -8,4 +8,3 @@ pub mod Examples
 pub mod Secondaries
 pub mod Delivery
 pub mod Drivers
-pub mod Held

@@ -1,0 +1,1 @@
+// Who drives each line, and how many they are: laws about the bus, and nothing to call.
