@@ -18,7 +18,8 @@ use Rattle.role.proofs.Roles.{nameOf, Apart, marked, unmarked, Single}
 use Rattle.party.proofs.Settled.{attended-unmarked}
 use Rattle.parties.specs.Places.{at, some, each, total}
 use Rattle.parties.proofs.Places.{at-each, each-below, each-past, some-seen, some-each, length-each, total-each}
-use Rattle.bus.specs.Types.{Name, Party, Strs, Acceptor, Aids, Anrs, Acrs, Acds, Standing, Nothing, Byte, Bus}
+use Rattle.bus.specs.Types.{Name, Party, Control, Idle, Standby, Active, Strs, Acceptor, Aids, Anrs, Acrs, Acds}
+use Rattle.bus.specs.Types.{Standing, Nothing, Byte, Bus}
 use Rattle.bus.specs.Types.{Said}
 use Rattle.effect.specs.Stands.{stands}
 use Rattle.bus.specs.Settling.{attend}
@@ -62,11 +63,12 @@ anrs : Taker Anrs → ⊥
 anrs (inl e) = no (cc)
 anrs (inr e) = no (cc)
 
-attended-taker : (t x y : Bool) → Taker (acceptorAttended t x y) → ⊥
-attended-taker true true y e = aids e
-attended-taker true false y e = anrs e
-attended-taker false x true e = anrs e
-attended-taker false x false e = aids e
+attended-taker : (t : Bool) (c : Control) (y : Bool) → Taker (acceptorAttended t c y) → ⊥
+attended-taker true Active y e = aids e
+attended-taker true Idle y e = anrs e
+attended-taker true Standby y e = anrs e
+attended-taker false c true e = anrs e
+attended-taker false c false e = aids e
 
 heed-pre : (t : Bool) (n : ℕ) (v : ℕ → Party) → Raw n v → ((j : ℕ) → isActive (v j) ≡ true → t ≡ true)
     → Pre n t (heeded t n v) Nothing
@@ -99,7 +101,7 @@ heed-pre t n v P a = record {
       (λ j l. ap (λ (x : Party). marked (x .role)) (P .tail j l)));
   apart = heeded-all t n v (λ j x. Single (x .role)) (λ j l. P .apart j) (λ j l. P .apart j);
   empty = λ e. heeded-all t n v (λ j x. x .acceptor ≡ Acrs → isFull (x .input) ≡ false)
-      (λ j l h. absurd (attended-taker t (isActive (v j)) (v j .role .listen) (inl h)))
+      (λ j l h. absurd (attended-taker t (v j .control) (v j .role .listen) (inl h)))
       (λ j l h. ap (λ (x : Party). isFull (x .input)) (P .tail j l));
   plain = λ h. no (cc);
   polled = λ j h. no (cc);
@@ -165,7 +167,7 @@ module _ (b : Bus) (s : Said) (ps : List Party) (st : Standing) (z : length ps �
       fits′ = rw length-each fits
 
       go : (x : Bool) → ltb j n ≡ x → Taker (at (each n (settled t) (each n (attended t) ps)) j .acceptor) → ⊥
-      go true e h = attended-taker t (isActive (at ps j)) (at ps j .role .listen)
+      go true e h = attended-taker t (at ps j .control) (at ps j .role .listen)
           (rw (
             each-below n (settled t) (each n (attended t) ps) j (ltb-true j n e) fits′,
             each-below n (attended t) ps

@@ -1,7 +1,7 @@
 -- The switches of the host: listen-only and talk-only.
 -- Assumes nothing.
 use mathlib.Core.Path.{_≡_, refl, ap}
-use mathlib.Core.Bool.{Bool, true, false, not, _&&_, _||_}
+use mathlib.Core.Bool.{Bool, true, false, not, cond, _&&_, _||_}
 use mathlib.Core.Logic.{_⊎_, inl, inr}
 use Prim.Native.Nat.{ℕ, _<_}
 use lib.ListN.{set}
@@ -29,7 +29,7 @@ use Rattle.effect.specs.Effects.{say, does}
 use Rattle.bus.specs.Settling.{settle}
 use Rattle.host_calls.specs.HostCalls.{joining}
 use Rattle.refusals.specs.Refusals.{ofSwitch, listenRefusal, talkRefusal}
-use Rattle.bus.specs.Machine.{refusal, accepted}
+use Rattle.bus.specs.Machine.{viewAt, refusal, accepted}
 use Rattle.bus.specs.Delivery.{wrote}
 use Rattle.bus.proofs.Invariant.{isCommand, codeOf, waits, look, look-idle, same-heard, Inv, atnOf}
 use Rattle.bus.proofs.Invariant as invariant
@@ -321,14 +321,16 @@ module _ (b : Bus) (I : Inv b) (p : Place) where
       another : Bool
       another = isFound (otherTalker (b .count) (p .0) (b .parties))
 
-      kn : (p .0 < b .count) × (isAccepted (ofSwitch on (talkRefusal (isOn on) listen (atnOf b) another)) ≡ true)
-      kn = known b p (ofSwitch on (talkRefusal (isOn on) listen (atnOf b) another)) ok
+      kn : (p .0 < b .count) × (isAccepted (ofSwitch on (talkRefusal (isOn on) (viewAt p (lines b) b))) ≡ true)
+      kn = known b p (ofSwitch on (talkRefusal (isOn on) (viewAt p (lines b) b))) ok
 
-      sw : (ltb 1 on ≡ false) × (isAccepted (talkRefusal (isOn on) listen (atnOf b) another) ≡ true)
-      sw = switched on (talkRefusal (isOn on) listen (atnOf b) another) (kn .1)
+      sw : (ltb 1 on ≡ false) × (isAccepted (talkRefusal (isOn on) (viewAt p (lines b) b)) ≡ true)
+      sw = switched on (talkRefusal (isOn on) (viewAt p (lines b) b)) (kn .1)
 
       -- the tests that talk-only on passes
-      passed : (x l t a : Bool) → x ≡ true → isAccepted (talkRefusal x l t a) ≡ true
+      passed : (x l t a : Bool) → x ≡ true
+          → isAccepted (cond x (cond l ruling.Role (cond t ruling.Attention (cond a ruling.Talker ruling.Accepted)))
+          ruling.Accepted) ≡ true
           → (l ≡ false) × (t ≡ false) × (a ≡ false)
       passed false l t a e f = no (cc)
       passed true true t a e f = no (cc)

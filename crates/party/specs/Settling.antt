@@ -9,7 +9,7 @@ use Rattle.party.specs.Types.{Party, Control, Empty, Unmarked, Source, S
 use Rattle.party.specs.Types.{Anrs, Idle}
 use Rattle.party.specs.Parts.{withRole, withControl, withSource, withAcceptor, withHeld, withRequest, heldBytes}
 use Rattle.party.specs.Parts.{withInput}
-use Rattle.party.specs.Driving.{isActive}
+use Rattle.party.specs.Driving.{active, isActive}
 use Rattle.party.specs.Sending.{isSource, isPolled}
 
 -- "A party that becomes or stops being active loses its held byte (dropped)."
@@ -17,13 +17,13 @@ abbrev pub changeControl : Control → Party → Party
 changeControl c p = withHeld Empty (withControl c p)
 
 -- "with ATN true the active party to AIDS, all others to ANRS; with ATN false listeners to ANRS, others to AIDS"
-abbrev pub acceptorAttended : Bool → Bool → Bool → Acceptor
-acceptorAttended atn active listen = cond atn (cond active Aids Anrs) (cond listen Anrs Aids)
+abbrev pub acceptorAttended : Bool → Control → Bool → Acceptor
+acceptorAttended atn c listen = cond atn (cond (active c) Aids Anrs) (cond listen Anrs Aids)
 
 -- "all sources to SIDS". Document 02, Q-3: "every change of which party is active" clears the marks.
 abbrev pub attended : Bool → Party → Party
 attended atn p = withRole (withMark Unmarked (p .role))
-    (withSource Sids (withAcceptor (acceptorAttended atn (isActive p) (p .role .listen)) p))
+    (withSource Sids (withAcceptor (acceptorAttended atn (p .control) (p .role .listen)) p))
 
 -- "A non-source goes to SIDS ..; a source in SIDS to SGNS."
 abbrev pub sourceSettled : Bool → Source → Source

@@ -2,19 +2,20 @@
 ghost use mathlib.Core.Path.{_≡_};
 ghost use Rattle.party.specs.Settling.{acceptorAttended, attended, sourceSettled, settled};
 use crate::Acceptor;
+use crate::Control;
 use crate::Party;
 use crate::Source;
 use role::Mark;
 
 impl Acceptor {
-    fn attended(atn: bool, active: bool, listen: bool) -> Acceptor
-        ensures { λ r. ⌜ r ≡ acceptorAttended atn active listen ⌝ }
+    fn attended(atn: bool, control: Control, listen: bool) -> Acceptor
+        ensures { λ r. ⌜ r ≡ acceptorAttended atn control listen ⌝ }
     {
         if atn {
-            if active {
-                Acceptor::Aids
-            } else {
-                Acceptor::Anrs
+            match control {
+                Control::Idle => Acceptor::Anrs,
+                Control::Standby => Acceptor::Anrs,
+                Control::Active => Acceptor::Aids,
             }
         } else if listen {
             Acceptor::Anrs
@@ -47,7 +48,8 @@ impl Party {
         ensures { λ r. ⌜ r ≡ attended atn self ⌝ }
     {
         let role = self.role;
-        let acceptor = Acceptor::attended(atn, self.is_active(), role.listen);
+        let control = self.control;
+        let acceptor = Acceptor::attended(atn, control, role.listen);
         let p = self.with_acceptor(acceptor).with_source(Source::Sids);
         p.with_role(role.with_mark(Mark::Unmarked))
     }

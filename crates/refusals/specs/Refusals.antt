@@ -32,9 +32,12 @@ listenRefusal on talk = cond on (cond talk ruling.Role ruling.Accepted) ruling.A
 
 -- "ROLE: .. talk-only on while listen is on"; "ATTENTION: talk-only on under ATN"; "TALKER: talk-only on while
 -- another's talk is on"
-abbrev pub talkRefusal : Bool → Bool → Bool → Bool → Refusal
-talkRefusal on listen atn another = cond on (cond listen ruling.Role
-    (cond atn ruling.Attention (cond another ruling.Talker ruling.Accepted))) ruling.Accepted
+abbrev pub talkRefusal : Bool → View → Refusal
+talkRefusal on v = cond on
+    (cond (v .party .role .listen) ruling.Role
+    (cond (v .lines .atn) ruling.Attention
+    (cond (isFound (v .talker)) ruling.Talker ruling.Accepted)))
+    ruling.Accepted
 
 -- "ROLE: .. go to standby not active"; "STANDING: go to standby .. by the sender of a standing command"
 abbrev pub standbyRefusal : Bool → Bool → Refusal
@@ -49,8 +52,7 @@ own v (act-of.Write x e) = ofSwitch e (cond (isFull (v .party .held)) ruling.Ful
 own v act-of.Read = cond (isFull (v .party .input)) ruling.Accepted ruling.Empty
 own v (act-of.PollRegister x) = ruling.Accepted
 own v (act-of.ListenOnly on) = ofSwitch on (listenRefusal (isOn on) (v .party .role .talk))
-own v (act-of.TalkOnly on) = ofSwitch on (talkRefusal (isOn on) (v .party .role .listen) (v .lines .atn)
-    (isFound (v .talker)))
+own v (act-of.TalkOnly on) = ofSwitch on (talkRefusal (isOn on) v)
 -- "ROLE: take control not in standby"
 own v act-of.TakeControl = cond (inStandby (v .party .control)) ruling.Accepted ruling.Role
 own v act-of.GoToStandby = standbyRefusal (isActive (v .party)) (sends v)

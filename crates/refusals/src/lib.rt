@@ -49,18 +49,20 @@ fn listen_refusal(on: bool, talk: bool) -> Refusal
     }
 }
 
-fn talk_refusal(on: bool, listen: bool, atn: bool, another: bool) -> Refusal
-    ensures { λ r. ⌜ r ≡ talkRefusal on listen atn another ⌝ }
+fn talk_refusal(on: bool, v: View) -> Refusal
+    ensures { λ r. ⌜ r ≡ talkRefusal on v ⌝ }
 {
+    let l = v.lines;
+    let p = v.party;
+    let role = p.role;
+    let talker = v.talker;
     if on {
-        if listen {
+        if role.listen {
             Refusal::Role
-        } else if atn {
+        } else if l.atn {
             Refusal::Attention
-        } else if another {
-            Refusal::Talker
         } else {
-            Refusal::Accepted
+            when(talker.is_found(), Refusal::Talker, Refusal::Accepted)
         }
     } else {
         Refusal::Accepted
@@ -87,8 +89,6 @@ fn own(a: Act, v: View) -> Refusal
 {
     let i = v.place;
     let st = v.standing;
-    let l = v.lines;
-    let talker = v.talker;
     let p = v.party;
     let role = p.role;
     let control = p.control;
@@ -108,11 +108,7 @@ fn own(a: Act, v: View) -> Refusal
             Refusal::BadValue,
             listen_refusal(is_on(on), role.talk),
         ),
-        Act::TalkOnly(on) => when(
-            1 < on,
-            Refusal::BadValue,
-            talk_refusal(is_on(on), role.listen, l.atn, talker.is_found()),
-        ),
+        Act::TalkOnly(on) => when(1 < on, Refusal::BadValue, talk_refusal(is_on(on), v)),
         Act::TakeControl => when(in_standby(control), Refusal::Accepted, Refusal::Role),
         Act::GoToStandby => standby_refusal(p.is_active(), st.sends_command(i)),
         Act::InterfaceClear => when(v.chief, Refusal::Accepted, Refusal::Role),

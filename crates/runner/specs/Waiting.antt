@@ -1,5 +1,5 @@
 -- Who has the next turn (document 02, Q-1): "A runner steps the party that has waited longest for a turn, ties to the
--- lowest" "party number". A wait is how many turns others have had since a party's own last one, or since the run
+-- lowest party number". A wait is how many turns others have had since a party's own last one, or since the run
 -- began: `ws` has one for each place.
 -- Assumes nothing.
 use Prim.Native.Nat.{ℕ, zero, suc, _≤_, _<_, _%_}

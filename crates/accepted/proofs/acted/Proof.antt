@@ -3,11 +3,7 @@ use Rattle.accepted.proofs.acted.Statement.{statement}
 use Rattle.accepted.proofs.acted.Tie as tie
 
 returns : tie.Need-returns
-returns c =
-    simp (
-      c .step .ensures,
-      c .before .enum-told .given .1,
-    )
+returns c = simp (c .step .ensures, c .before .enum-told .given .1)
 
 returns-2 : tie.Need-returns-2
 returns-2 c =
@@ -21,12 +17,7 @@ returns-2 c =
     )
 
 returns-3 : tie.Need-returns-3
-returns-3 c =
-    simp (
-      c .with-standing2 .ensures,
-      c .before .read .ensures,
-      c .before .before .enum-told2 .given .1,
-    )
+returns-3 c = simp (c .with-standing2 .ensures, c .before .read .ensures, c .before .before .enum-told2 .given .1)
 
 returns-4 : tie.Need-returns-4
 returns-4 c =
@@ -61,44 +52,21 @@ returns-6 c =
     )
 
 returns-7 : tie.Need-returns-7
-returns-7 c =
-    simp (
-      c .with-standing6 .ensures,
-      c .before .controlled .ensures,
-      c .before .before .enum-told3 .given .1,
-    )
+returns-7 c = simp (c .with-standing6 .ensures, c .before .controlled .ensures, c .before .before .enum-told3 .given .1)
 
 returns-8 : tie.Need-returns-8
 returns-8 c =
-    simp (
-      c .with-standing7 .ensures,
-      c .before .controlled2 .ensures,
-      c .before .before .enum-told4 .given .1,
-    )
+    simp (c .with-standing7 .ensures, c .before .controlled2 .ensures, c .before .before .enum-told4 .given .1)
 
 returns-9 : tie.Need-returns-9
-returns-9 c =
-    simp (
-      c .with-standing8 .ensures,
-      c .before .clear .ensures,
-      c .before .before .enum-told5 .given .1,
-    )
+returns-9 c = simp (c .with-standing8 .ensures, c .before .clear .ensures, c .before .before .enum-told5 .given .1)
 
 returns-10 : tie.Need-returns-10
-returns-10 c =
-    simp (
-      c .with-standing9 .ensures,
-      c .before .reset .ensures,
-      c .before .before .enum-told6 .given .1,
-    )
+returns-10 c = simp (c .with-standing9 .ensures, c .before .reset .ensures, c .before .before .enum-told6 .given .1)
 
 returns-11 : tie.Need-returns-11
 returns-11 c =
-    simp (
-      c .with-standing10 .ensures,
-      c .before .drop-held .ensures,
-      c .before .before .enum-told7 .given .1,
-    )
+    simp (c .with-standing10 .ensures, c .before .drop-held .ensures, c .before .before .enum-told7 .given .1)
 
 returns-12 : tie.Need-returns-12
 returns-12 c =

@@ -12,19 +12,10 @@ returns c =
     )
 
 returns-2 : tie.Need-returns-2
-returns-2 c =
-    simp (
-      c .with-standing .ensures,
-      c .before .tell .ensures,
-      c .before .before .enum-told .given .1,
-    )
+returns-2 c = simp (c .with-standing .ensures, c .before .tell .ensures, c .before .before .enum-told .given .1)
 
 returns-3 : tie.Need-returns-3
-returns-3 c =
-    simp (
-      c .stay .ensures,
-      c .before .enum-told2 .given .1,
-    )
+returns-3 c = simp (c .stay .ensures, c .before .enum-told2 .given .1)
 
 pub effect-of-spec : {M : Type 1} → statement M
 effect-of-spec =

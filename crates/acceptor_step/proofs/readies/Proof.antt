@@ -3,20 +3,10 @@ use Rattle.acceptor_step.proofs.readies.Statement.{statement}
 use Rattle.acceptor_step.proofs.readies.Tie as tie
 
 returns : tie.Need-returns
-returns c =
-    simp (
-      c .moved .ensures,
-      c .before .with-acceptor .ensures,
-      c .before .before .if1 .taken,
-    )
+returns c = simp (c .moved .ensures, c .before .with-acceptor .ensures, c .before .before .if1 .taken)
 
 returns-2 : tie.Need-returns-2
-returns-2 c =
-    simp (
-      c .stay .ensures,
-      c .before .if2 .taken,
-      c .before .before .if1 .left,
-    )
+returns-2 c = simp (c .stay .ensures, c .before .if2 .taken, c .before .before .if1 .left)
 
 returns-3 : tie.Need-returns-3
 returns-3 c =

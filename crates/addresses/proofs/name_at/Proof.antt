@@ -23,8 +23,7 @@ returns-3 c =
     let a = c .before .before .before .before .before .before .before .args in
     simp (
       c .secondary-of .ensures,
-      name-both (a .addresses .now) (a .secondaries .now) (a .i) (plain (address 0))
-          (omega arith) (omega arith),
+      name-both (a .addresses .now) (a .secondaries .now) (a .i) (plain (address 0)) (omega arith) (omega arith),
     )
 
 pub name-at-spec : {M : Type 1} → statement M

@@ -3,11 +3,7 @@ use Rattle.host_calls.proofs.read.Statement.{statement}
 use Rattle.host_calls.proofs.read.Tie as tie
 
 returns : tie.Need-returns
-returns c =
-    simp (
-      c .quiet .ensures,
-      c .before .enum-told .given .1,
-    )
+returns c = simp (c .quiet .ensures, c .before .enum-told .given .1)
 
 returns-2 : tie.Need-returns-2
 returns-2 c =

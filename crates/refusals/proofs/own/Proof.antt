@@ -16,12 +16,7 @@ returns-2 c =
     )
 
 returns-3 : tie.Need-returns-3
-returns-3 c =
-    simp (
-      c .when3 .ensures,
-      c .before .is-full2 .ensures,
-      c .before .before .enum-told2 .given .1,
-    )
+returns-3 c = simp (c .when3 .ensures, c .before .is-full2 .ensures, c .before .before .enum-told2 .given .1)
 
 returns-4 : tie.Need-returns-4
 returns-4 c =
@@ -41,18 +36,12 @@ returns-6 c =
     simp (
       c .when5 .ensures,
       c .before .talk-refusal .ensures,
-      c .before .before .is-found .ensures,
-      c .before .before .before .is-on2 .ensures,
-      c .before .before .before .before .before .a3 .given .1,
+      c .before .before .is-on2 .ensures,
+      c .before .before .before .before .a3 .given .1,
     )
 
 returns-7 : tie.Need-returns-7
-returns-7 c =
-    simp (
-      c .when6 .ensures,
-      c .before .in-standby .ensures,
-      c .before .before .enum-told4 .given .1,
-    )
+returns-7 c = simp (c .when6 .ensures, c .before .in-standby .ensures, c .before .before .enum-told4 .given .1)
 
 returns-8 : tie.Need-returns-8
 returns-8 c =
@@ -64,30 +53,17 @@ returns-8 c =
     )
 
 returns-9 : tie.Need-returns-9
-returns-9 c =
-    simp (
-      c .when7 .ensures,
-      c .before .enum-told6 .given .1,
-    )
+returns-9 c = simp (c .when7 .ensures, c .before .enum-told6 .given .1)
 
 returns-10 : tie.Need-returns-10
-returns-10 c =
-    simp (
-      c .when8 .ensures,
-      c .before .sends-command2 .ensures,
-      c .before .before .enum-told7 .given .1,
-    )
+returns-10 c = simp (c .when8 .ensures, c .before .sends-command2 .ensures, c .before .before .enum-told7 .given .1)
 
 returns-11 : tie.Need-returns-11
 returns-11 c =
     simp (c .enum-told8 .given .1)
 
 returns-12 : tie.Need-returns-12
-returns-12 c =
-    simp (
-      c .when9 .ensures,
-      c .before .before .a4 .given .1,
-    )
+returns-12 c = simp (c .when9 .ensures, c .before .before .a4 .given .1)
 
 pub own-spec : {M : Type 1} → statement M
 own-spec =
@@ -96,8 +72,8 @@ own-spec =
     (λ c. search needs) (λ c. search needs) (λ c κs. search needs) (λ c κs. search needs) (λ c κs. search needs)
     (λ c. search needs) (λ c κs. search needs) (λ c κs. search needs) (λ c. search needs) (λ c. search needs)
     (λ c κs. search needs) (λ c κs. search needs) (λ c κs. search needs) (λ c. search needs) (λ c κs. search needs)
-    (λ c κs. search needs) (λ c κs. search needs) (λ c κs. search needs) (λ c. search needs) (λ c κs. search needs)
-    (λ c κs. search needs) (λ c. search needs) (λ c κs. search needs) (λ c κs. search needs) (λ c κs. search needs)
+    (λ c κs. search needs) (λ c κs. search needs) (λ c. search needs) (λ c κs. search needs) (λ c κs. search needs)
+    (λ c. search needs) (λ c κs. search needs) (λ c κs. search needs) (λ c κs. search needs)
     (λ c. search needs) (λ c κs. search needs) (λ c. search needs) (λ c κs. search needs) (λ c κs. search needs)
     (λ c. search needs) (λ c. search needs) (λ c κs. search needs) returns returns-2 returns-3 returns-4 returns-5
     returns-6 returns-7 returns-8 returns-9 returns-10 returns-11 returns-12)

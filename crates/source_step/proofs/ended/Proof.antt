@@ -3,11 +3,7 @@ use Rattle.source_step.proofs.ended.Statement.{statement}
 use Rattle.source_step.proofs.ended.Tie as tie
 
 returns : tie.Need-returns
-returns c =
-    simp (
-      c .stay .ensures,
-      c .before .enum-told .given .1,
-    )
+returns c = simp (c .stay .ensures, c .before .enum-told .given .1)
 
 returns-2 : tie.Need-returns-2
 returns-2 c =

@@ -3,12 +3,7 @@ use Rattle.source_step.proofs.ready.Statement.{statement}
 use Rattle.source_step.proofs.ready.Tie as tie
 
 returns : tie.Need-returns
-returns c =
-    simp (
-      c .moved .ensures,
-      c .before .with-source .ensures,
-      c .before .before .enum-told .given .1,
-    )
+returns c = simp (c .moved .ensures, c .before .with-source .ensures, c .before .before .enum-told .given .1)
 
 returns-2 : tie.Need-returns-2
 returns-2 c =

@@ -3,11 +3,7 @@ use Rattle.effect.proofs.View.stay.Statement.{statement}
 use Rattle.effect.proofs.View.stay.Tie as tie
 
 returns : tie.Need-returns
-returns c =
-    simp (
-      c .does .ensures,
-      c .before .say .ensures,
-    )
+returns c = simp (c .does .ensures, c .before .say .ensures)
 
 pub stay-spec : {M : Type 1} → statement M
 stay-spec = tie.close (tie.spec

@@ -17,8 +17,7 @@ returns c =
     let h : a .p .0 < within (a .count) = omega arith in
     shifted (a .p .0) (omega arith) ∙ rw (
       bit-alone (within (a .count)) (a .p .0),
-      lt-ltb (a .p .0) (within (a .count))
-          h,
+      lt-ltb (a .p .0) (within (a .count)) h,
     ) refl
 
 returns-2 : tie.Need-returns-2

@@ -10,7 +10,6 @@ returns c =
       c .before .before .with-source .ensures,
       c .before .before .before .with-acceptor .ensures,
       c .before .before .before .before .attended .ensures,
-      c .before .before .before .before .before .is-active .ensures,
     )
 
 pub attended-spec : {M : Type 1} → statement M
@@ -18,4 +17,4 @@ attended-spec =
     tie.close
     (tie.spec
     (λ c κs. search needs) (λ c κs. search needs) (λ c κs. search needs) (λ c κs. search needs) (λ c κs. search needs)
-    (λ c κs. search needs) returns)
+    returns)

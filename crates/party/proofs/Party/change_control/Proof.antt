@@ -3,11 +3,7 @@ use Rattle.party.proofs.Party.change_control.Statement.{statement}
 use Rattle.party.proofs.Party.change_control.Tie as tie
 
 returns : tie.Need-returns
-returns c =
-    simp (
-      c .with-held .ensures,
-      c .before .with-control .ensures,
-    )
+returns c = simp (c .with-held .ensures, c .before .with-control .ensures)
 
 pub change-control-spec : {M : Type 1} → statement M
 change-control-spec = tie.close (tie.spec

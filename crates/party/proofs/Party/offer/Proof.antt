@@ -3,11 +3,7 @@ use Rattle.party.proofs.Party.offer.Statement.{statement}
 use Rattle.party.proofs.Party.offer.Tie as tie
 
 returns : tie.Need-returns
-returns c =
-    simp (
-      c .status .ensures,
-      c .before .before .if1 .taken,
-    )
+returns c = simp (c .status .ensures, c .before .before .if1 .taken)
 
 pub offer-spec : {M : Type 1} → statement M
 offer-spec = tie.close (tie.spec

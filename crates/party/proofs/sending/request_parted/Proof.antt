@@ -3,11 +3,7 @@ use Rattle.party.proofs.sending.request_parted.Statement.{statement}
 use Rattle.party.proofs.sending.request_parted.Tie as tie
 
 returns-3 : tie.Need-returns-3
-returns-3 c =
-    simp (
-      c .reported .ensures,
-      c .before .enum-told3 .given .1,
-    )
+returns-3 c = simp (c .reported .ensures, c .before .enum-told3 .given .1)
 
 pub request-parted-spec : {M : Type 1} → statement M
 request-parted-spec =

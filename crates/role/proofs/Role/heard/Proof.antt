@@ -3,12 +3,7 @@ use Rattle.role.proofs.Role.heard.Statement.{statement}
 use Rattle.role.proofs.Role.heard.Tie as tie
 
 returns : tie.Need-returns
-returns c =
-    simp (
-      c .with-mark .ensures,
-      c .before .mark-after .ensures,
-      c .before .before .addressed .ensures,
-    )
+returns c = simp (c .with-mark .ensures, c .before .mark-after .ensures, c .before .before .addressed .ensures)
 
 pub heard-spec : {M : Type 1} → statement M
 heard-spec = tie.close (tie.spec

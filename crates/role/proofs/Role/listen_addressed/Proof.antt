@@ -3,12 +3,7 @@ use Rattle.role.proofs.Role.listen_addressed.Statement.{statement}
 use Rattle.role.proofs.Role.listen_addressed.Tie as tie
 
 returns : tie.Need-returns
-returns c =
-    simp (
-      c .with-flags .ensures,
-      c .before .if1 .taken,
-      c .before .before .enum-told .given .1,
-    )
+returns c = simp (c .with-flags .ensures, c .before .if1 .taken, c .before .before .enum-told .given .1)
 
 pub listen-addressed-spec : {M : Type 1} → statement M
 listen-addressed-spec =

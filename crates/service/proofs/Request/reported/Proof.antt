@@ -3,11 +3,7 @@ use Rattle.service.proofs.Request.reported.Statement.{statement}
 use Rattle.service.proofs.Request.reported.Tie as tie
 
 returns : tie.Need-returns
-returns c =
-    simp (
-      c .with-rsv2 .ensures,
-      c .before .rsv2-kept .ensures,
-    )
+returns c = simp (c .with-rsv2 .ensures, c .before .rsv2-kept .ensures)
 
 pub reported-spec : {M : Type 1} → statement M
 reported-spec = tie.close (tie.spec
