@@ -11,9 +11,8 @@ returns-2 c =
       c .with-standing .ensures,
       c .before .write .ensures,
       c .before .before .is-on .ensures,
-      c .before .before .before .known-told .given .1,
-      c .before .before .before .before .a .given .1,
-      c .before .before .before .before .before .match .keys2,
+      c .before .before
+          .before .before .a .given .1,
     )
 
 returns-3 : tie.Need-returns-3
@@ -21,13 +20,7 @@ returns-3 c = simp (c .with-standing2 .ensures, c .before .read .ensures, c .bef
 
 returns-4 : tie.Need-returns-4
 returns-4 c =
-    simp (
-      c .with-standing3 .ensures,
-      c .before .poll-register .ensures,
-      c .before .before .known-told2 .given .1,
-      c .before .before .before .a2 .given .1,
-      c .before .before .before .before .match .keys4,
-    )
+    simp (c .with-standing3 .ensures, c .before .poll-register .ensures, c .before .before .before .a2 .given .1)
 
 returns-5 : tie.Need-returns-5
 returns-5 c =
@@ -35,9 +28,8 @@ returns-5 c =
       c .with-standing4 .ensures,
       c .before .listen-only .ensures,
       c .before .before .is-on2 .ensures,
-      c .before .before .before .known-told3 .given .1,
-      c .before .before .before .before .a3 .given .1,
-      c .before .before .before .before .before .match .keys5,
+      c .before
+          .before .before .before .a3 .given .1,
     )
 
 returns-6 : tie.Need-returns-6
@@ -46,9 +38,8 @@ returns-6 c =
       c .with-standing5 .ensures,
       c .before .talk-only .ensures,
       c .before .before .is-on3 .ensures,
-      c .before .before .before .known-told4 .given .1,
-      c .before .before .before .before .a4 .given .1,
-      c .before .before .before .before .before .match .keys6,
+      c .before
+          .before .before .before .a4 .given .1,
     )
 
 returns-7 : tie.Need-returns-7
@@ -74,9 +65,8 @@ returns-12 c =
       c .with-standing11 .ensures,
       c .before .second-request .ensures,
       c .before .before .is-on4 .ensures,
-      c .before .before .before .known-told5 .given .1,
-      c .before .before .before .before .a5 .given .1,
-      c .before .before .before .before .before .match .keys12,
+      c .before
+          .before .before .before .a5 .given .1,
     )
 
 pub acted-spec : {M : Type 1} → statement M

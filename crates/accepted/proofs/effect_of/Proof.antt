@@ -4,12 +4,7 @@ use Rattle.accepted.proofs.effect_of.Tie as tie
 
 returns : tie.Need-returns
 returns c =
-    simp (
-      c .acted .ensures,
-      c .before .known-told .given .1,
-      c .before .before .c .given .1,
-      c .before .before .before .match .keys1,
-    )
+    simp (c .acted .ensures, c .before .before .c .given .1)
 
 returns-2 : tie.Need-returns-2
 returns-2 c = simp (c .with-standing .ensures, c .before .tell .ensures, c .before .before .enum-told .given .1)

@@ -7,23 +7,11 @@ returns c = simp (c .stay .ensures, c .before .enum-told .given .1)
 
 returns-2 : tie.Need-returns-2
 returns-2 c =
-    simp (
-      c .hears .ensures,
-      c .before .if1 .taken,
-      c .before .before .known-told .given .1,
-      c .before .before .before .st .given .1,
-      c .before .before .before .before .match .keys2,
-    )
+    simp (c .hears .ensures, c .before .if1 .taken, c .before .before .before .st .given .1)
 
 returns-3 : tie.Need-returns-3
 returns-3 c =
-    simp (
-      c .fills .ensures,
-      c .before .if1 .left,
-      c .before .before .known-told .given .1,
-      c .before .before .before .st .given .1,
-      c .before .before .before .before .match .keys2,
-    )
+    simp (c .fills .ensures, c .before .if1 .left, c .before .before .before .st .given .1)
 
 pub takes-spec : {M : Type 1} → statement M
 takes-spec =

@@ -7,13 +7,7 @@ returns c = simp (c .quiet .ensures, c .before .enum-told .given .1)
 
 returns-2 : tie.Need-returns-2
 returns-2 c =
-    simp (
-      c .with-input .ensures,
-      c .before .say .ensures,
-      c .before .before .known-told .given .1,
-      c .before .before .before .input .given .1,
-      c .before .before .before .before .match .keys2,
-    )
+    simp (c .with-input .ensures, c .before .say .ensures, c .before .before .before .input .given .1)
 
 pub read-spec : {M : Type 1} → statement M
 read-spec =

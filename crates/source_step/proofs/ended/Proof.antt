@@ -10,10 +10,8 @@ returns-2 c =
     simp (
       c .command-ended .ensures,
       c .before .enum-told2 .given .1,
-      c .before .before .before .with-source .ensures,
-      c .before .before .before .before .say .ensures,
-      c .before .before .before .before .before .before .known-told .given .1,
-      c .before .before .before .before .before .before .before .st .given .1,
+      c .before .before .before .before .before .before
+          .before .st .given .1,
     )
 
 returns-3 : tie.Need-returns-3
@@ -22,8 +20,8 @@ returns-3 c =
       c .does .ensures,
       c .before .enum-told3 .given .1,
       c .before .before .before .with-source .ensures,
-      c .before .before .before .before .say .ensures,
-      c .before .before .before .before .before .before .known-told .given .1,
+      c .before
+          .before .before .before .say .ensures,
       c .before .before .before .before .before .before .before .st .given .1,
     )
 
@@ -33,8 +31,8 @@ returns-4 c =
       c .does2 .ensures,
       c .before .enum-told4 .given .1,
       c .before .before .before .with-source .ensures,
-      c .before .before .before .before .say .ensures,
-      c .before .before .before .before .before .before .known-told .given .1,
+      c .before
+          .before .before .before .say .ensures,
       c .before .before .before .before .before .before .before .st .given .1,
     )
 

@@ -7,13 +7,7 @@ returns c = simp (c .moved .ensures, c .before .with-source .ensures, c .before 
 
 returns-2 : tie.Need-returns-2
 returns-2 c =
-    simp (
-      c .stay .ensures,
-      c .before .if1 .taken,
-      c .before .before .known-told .given .1,
-      c .before .before .before .offer .given .1,
-      c .before .before .before .before .match .keys2,
-    )
+    simp (c .stay .ensures, c .before .if1 .taken, c .before .before .before .offer .given .1)
 
 returns-3 : tie.Need-returns-3
 returns-3 c =
@@ -21,9 +15,8 @@ returns-3 c =
       c .put .ensures,
       c .before .if2 .taken,
       c .before .before .if1 .left,
-      c .before .before .before .known-told .given .1,
-      c .before .before .before .before .offer .given .1,
-      c .before .before .before .before .before .match .keys2,
+      c .before .before .before .before .offer
+          .given .1,
     )
 
 returns-4 : tie.Need-returns-4
@@ -32,9 +25,8 @@ returns-4 c =
       c .noacc .ensures,
       c .before .if2 .left,
       c .before .before .if1 .left,
-      c .before .before .before .known-told .given .1,
-      c .before .before .before .before .offer .given .1,
-      c .before .before .before .before .before .match .keys2,
+      c .before .before .before .before
+          .offer .given .1,
     )
 
 pub ready-spec : {M : Type 1} → statement M
