@@ -61,15 +61,15 @@ pub enum Call {
 
 // What a call sees of the bus as it comes.
 pub struct View {
+    pub place: Place,
+    // Has the place a party, and is that the system party?
+    pub inside: bool,
+    pub chief: bool,
+    // The first other party that talks.
+    pub talker: Found,
     pub lines: Lines,
     pub standing: Standing,
-    pub place: Place,
-    // Its party, the first other one that talks, and whether the place has a party.
     pub party: Party,
-    pub talker: Found,
-    pub inside: bool,
-    // Is it the system party?
-    pub chief: bool,
 }
 
 // What an answer says beside its refusal, its broken count and the bus.
