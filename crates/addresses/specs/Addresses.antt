@@ -18,12 +18,19 @@ use Rattle.party.specs.Parts.{idle, builtParty}
 abbrev pub secondaryOf : ℕ → Secondary
 secondaryOf s = cond (eqb s 255) Absent (Given (secondary s))
 
--- The names that a list of addresses and one of secondaries give: where the second has ended there is no secondary, and
--- what it has past the last address is nobody's.
+-- The names that a list of addresses and one of secondaries give; where the second is empty nobody has a secondary.
 abbrev pub names : List ℕ → List ℕ → List Name
 names [] ss = []
 names (a ∷ xs) [] = plain (address a) ∷ names xs []
 names (a ∷ xs) (s ∷ ss) = record { address = address a; secondary = secondaryOf s } ∷ names xs ss
+
+-- A list of secondaries is empty, or as long as the addresses (docs/DECISIONS.md).
+unfoldable pub goTogether : List ℕ → List ℕ → Bool
+goTogether xs ss = eqb (length ss) 0 || eqb (length ss) (length xs)
+
+-- The names that the two lists of a build give. Lists that do not go together name nobody: they make no bus.
+abbrev pub namesOf : List ℕ → List ℕ → List Name
+namesOf xs ss = cond (goTogether xs ss) (names xs ss) []
 
 -- The parties at n places: one for each name, then the idle party. "places without a party hold it"
 abbrev pub placed : ℕ → List Name → List Party

@@ -3,7 +3,8 @@ ghost use mathlib.Core.Path.{_≡_};
 ghost use lib.ListN.{getD, drop};
 ghost use Rattle.names.specs.Names.{plain};
 ghost use Rattle.message.specs.Meaning.{address};
-ghost use Rattle.addresses.specs.Addresses.{secondaryOf, names, anyOver30, clashesWith, twoClash, badBuild};
+ghost use Rattle.addresses.specs.Addresses.{secondaryOf, names, goTogether};
+ghost use Rattle.addresses.specs.Addresses.{anyOver30, clashesWith, twoClash, badBuild};
 use message::Address;
 use message::SecondaryAddress;
 use names::Name;
@@ -80,6 +81,16 @@ fn two_clash(addresses: &[u8], secondaries: &[u8]) -> bool
         found = or(found, clashes_with(name, addresses, secondaries, i));
     }
     found
+}
+
+// A list of secondaries is empty, or as long as the addresses.
+pub fn go_together(addresses: &[u8], secondaries: &[u8]) -> bool
+    ensures { λ r. ⌜ r ≡ goTogether (now (addresses .entry)) (now (secondaries .entry)) ⌝ }
+{
+    if secondaries.len() == 0 {
+        return true;
+    }
+    secondaries.len() == addresses.len()
 }
 
 // Is this no bus to be built?

@@ -2,11 +2,12 @@
 ghost use mathlib.Core.Path.{_≡_};
 ghost use Prim.Native.Nat.{_≤_};
 ghost use lib.ListN.{length};
-ghost use Rattle.addresses.specs.Addresses.{names, placed};
+ghost use Rattle.addresses.specs.Addresses.{names, namesOf, placed};
 ghost use Rattle.bus.specs.Record.{build, buildExtended};
 use crate::Answer;
 use crate::Bus;
 use addresses::bad_build;
+use addresses::go_together;
 use addresses::name_at;
 use effect::Refusal;
 use effect::Standing;
@@ -36,10 +37,14 @@ impl Bus {
         Bus::build_extended(addresses, b"", system)
     }
 
-    // The same with the parties' secondaries: NO_SECONDARY, or none left in the list, where a party has none.
+    // The same with the parties' secondaries, NO_SECONDARY where a party has none. The list is empty, or as long as the
+    // addresses.
     pub fn build_extended(addresses: &[u8], secondaries: &[u8], system: Place) -> Answer
-        ensures { λ r. ⌜ r ≡ buildExtended (names (now (addresses .entry)) (now (secondaries .entry))) system ⌝ }
+        ensures { λ r. ⌜ r ≡ buildExtended (namesOf (now (addresses .entry)) (now (secondaries .entry))) system ⌝ }
     {
+        if !go_together(addresses, secondaries) {
+            return Bus::EMPTY.refuse(Refusal::BadBuild);
+        }
         if bad_build(addresses, secondaries, system) {
             return Bus::EMPTY.refuse(Refusal::BadBuild);
         }
@@ -49,6 +54,6 @@ impl Bus {
             system,
             standing: Standing::Nothing,
         };
-        bus.refuse(Refusal::Accepted)
+        bus.accept()
     }
 }

@@ -1,10 +1,10 @@
 // Building a bus, and asking what was built, for a program that keeps it as rows of bytes.
 ghost use mathlib.Core.Path.{_≡_};
 ghost use Rattle.parties.specs.Places.{place};
-ghost use Rattle.addresses.specs.Addresses.{names};
+ghost use Rattle.addresses.specs.Addresses.{namesOf};
 ghost use Rattle.bus.specs.Record.{build, buildExtended};
 ghost use Rattle.image.specs.Image.{busOf};
-ghost use Rattle.meskvorn.specs.Host.{Answered, nameNumber};
+ghost use Rattle.meskvorn.specs.Host.{Built, nameNumber};
 use crate::packing::packed;
 use crate::packing::packed_name;
 use bus::Bus;
@@ -17,7 +17,7 @@ use refusals::is_inside;
 // A build of parties without secondaries. What the rows held before does not matter.
 #[no_mangle]
 pub extern "C" fn meskvorn_build(bus: &mut [[u8; 24]; 16], addresses: &[u8], system: u8) -> u64
-    ensures { λ r. ⌜ Answered (build (now (addresses .entry)) (place system)) (now (bus .exit)) r ⌝ }
+    ensures { λ r. ⌜ Built (build (now (addresses .entry)) (place system)) (now (bus .exit)) r ⌝ }
 {
     let a = Bus::build(addresses, Place(system));
     let fresh = a.bus;
@@ -25,7 +25,7 @@ pub extern "C" fn meskvorn_build(bus: &mut [[u8; 24]; 16], addresses: &[u8], sys
     packed(a)
 }
 
-// The same with the parties' secondaries: 255, or none left in the list, where a party has none.
+// The same with the parties' secondaries, 255 where a party has none. The list is empty, or as long as the addresses.
 #[no_mangle]
 pub extern "C" fn meskvorn_build_extended(
     bus: &mut [[u8; 24]; 16],
@@ -35,7 +35,7 @@ pub extern "C" fn meskvorn_build_extended(
 ) -> u64
     ensures { λ r.
         ⌜
-        Answered (buildExtended (names (now (addresses .entry)) (now (secondaries .entry))) (place system))
+        Built (buildExtended (namesOf (now (addresses .entry)) (now (secondaries .entry))) (place system))
         (now (bus .exit)) r
         ⌝ }
 {
