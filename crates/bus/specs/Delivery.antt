@@ -17,7 +17,7 @@ use Rattle.bus.specs.Types.ev
 use Rattle.bus.specs.Types.call-of
 use Rattle.bus.specs.Types.act-of
 use Rattle.effect.specs.Calls.{isAccepted, actNumber}
-use Rattle.bus.specs.Record.{here, refuse, buildExtended}
+use Rattle.bus.specs.Record.{here, accept, buildExtended}
 use Rattle.effect.specs.Stands.{stands}
 use Rattle.bus.specs.Machine as m
 
@@ -87,7 +87,7 @@ held b = total (b .count) heldBytes (b .parties)
 module _ (b : Bus) (cs : List Call) where
   -- Call k. Past the list's end it is a call that does nothing.
   abbrev pub moment : ℕ → Moment
-  moment k = getD (history b cs) k (record { before = b; call = call-of.Lines; answer = refuse ruling.Accepted b })
+  moment k = getD (history b cs) k (record { before = b; call = call-of.Lines; answer = accept b })
 
   abbrev pub busAt : ℕ → Bus
   busAt k = moment k .before

@@ -28,14 +28,22 @@ built xs s = record { parties = placed 15 xs; count = length xs; system = s; sta
 abbrev pub noParties : Bus
 noParties = built [] (place 0)
 
+-- Event none, byte, END and counts 0, and this bus.
+abbrev pub silent : Refusal → Bus → Answer
+silent r b = record { refusal = r; event = ev.None; byte = 0; end = false; dropped = 0; broken = 0; bus = b }
+
 -- "A refusal returns event none, byte, END and counts 0, and the bus is unchanged".
 abbrev pub refuse : Refusal → Bus → Answer
-refuse r b = record { refusal = r; event = ev.None; byte = 0; end = false; dropped = 0; broken = 0; bus = b }
+refuse r b = silent r b
+
+-- Accepted, with nothing to say.
+abbrev pub accept : Bus → Answer
+accept b = silent ruling.Accepted b
 
 -- "except that a refused build .. leaves the bus of no parties". An accepted one has event none; settling leaves a bus
 -- just built as it is.
 abbrev pub buildExtended : List Name → Place → Answer
-buildExtended xs s = cond (badBuild xs s) (refuse ruling.BadBuild noParties) (refuse ruling.Accepted (built xs s))
+buildExtended xs s = cond (badBuild xs s) (refuse ruling.BadBuild noParties) (accept (built xs s))
 
 -- A build of parties without secondaries.
 abbrev pub build : List ℕ → Place → Answer

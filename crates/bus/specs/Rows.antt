@@ -89,8 +89,8 @@ listenOnly p on = call-of.Of (place p) (act-of.ListenOnly on)
 abbrev pub talkOnly : ℕ → ℕ → Call
 talkOnly p on = call-of.Of (place p) (act-of.TalkOnly on)
 
-abbrev pub drop : ℕ → Call
-drop p = call-of.Of (place p) act-of.Drop
+abbrev pub dropByte : ℕ → Call
+dropByte p = call-of.Of (place p) act-of.Drop
 
 abbrev pub clear : ℕ → Call
 clear p = call-of.Of (place p) act-of.InterfaceClear

@@ -1,6 +1,6 @@
 // How a call ends: refused; or its changes made, with attention where it is due, and every party settled.
 ghost use mathlib.Core.Path.{_≡_};
-ghost use Rattle.bus.specs.Record.{refuse};
+ghost use Rattle.bus.specs.Record.{silent, refuse, accept};
 ghost use Rattle.bus.specs.Settling.{answered, attend, settle, pass, clearAll, follow};
 use crate::Answer;
 use crate::Bus;
@@ -16,7 +16,7 @@ use parties::every::change_all;
 use parties::every::clear_drops;
 use parties::every::with_party;
 use parties::every::within;
-use parties::sweeping::is_on;
+use parties::sweeping::has_driver;
 use parties::sweeping::sweep_of;
 use party::Control;
 use party::Party;
@@ -24,8 +24,9 @@ use party::Place;
 use party::clearing::one;
 
 impl Bus {
-    pub fn refuse(self, r: Refusal) -> Answer
-        ensures { λ a. ⌜ a ≡ refuse r self ⌝ }
+    // Event none, and the bus as it is.
+    fn silent(self, r: Refusal) -> Answer
+        ensures { λ a. ⌜ a ≡ silent r self ⌝ }
     {
         Answer {
             refusal: r,
@@ -36,6 +37,19 @@ impl Bus {
             broken: 0,
             bus: self,
         }
+    }
+
+    pub fn refuse(self, r: Refusal) -> Answer
+        ensures { λ a. ⌜ a ≡ refuse r self ⌝ }
+    {
+        self.silent(r)
+    }
+
+    // Accepted, with nothing to say.
+    pub fn accept(self) -> Answer
+        ensures { λ a. ⌜ a ≡ accept self ⌝ }
+    {
+        self.silent(Refusal::Accepted)
     }
 
     // The answer of an accepted call that leaves this bus; `off` says that a byte was broken off.
@@ -99,7 +113,7 @@ impl Bus {
         ensures { λ r. ⌜ r ≡ attend self said ps st ⌝ }
     {
         let s = sweep_of(ps, self.count);
-        let parties = change_all(ps, self.count, Change::Attend(is_on(s.atn)));
+        let parties = change_all(ps, self.count, Change::Attend(has_driver(s.atn)));
         let system = self.system;
         let off = st.stands();
         let standing = st.unless(off);

@@ -20,7 +20,7 @@ use Rattle.party.specs.Parts.{one}
 use Rattle.role.proofs.Logic.{test}
 use Rattle.parties.specs.Types.{Party, Nowhere, At}
 use Rattle.parties.specs.Places.{place, at, some, firstFrom}
-use Rattle.parties.specs.Lines.{bits, mask, countFrom, isOn}
+use Rattle.parties.specs.Lines.{bits, mask, countFrom, hasDriver}
 use Rattle.parties.specs.Sweeping.{pushed, without, firstOf}
 
 one-le : (b : Bool) → one b ≤ 1
@@ -118,22 +118,22 @@ odd m = ne-eqb (1 + 2 * m) 0 (λ e. bad e)
     bad : 1 + 2 * m ≡ 0 → ⊥
     bad e = omega arith
 
-on-more : (b : Bool) (m : ℕ) → isOn (one b + 2 * m) ≡ (b || isOn m)
+on-more : (b : Bool) (m : ℕ) → hasDriver (one b + 2 * m) ≡ (b || hasDriver m)
 on-more true m = ap not (odd m)
 on-more false m = ap not (doubled m)
 
 some-bits : (i n : ℕ) (f : Party → Bool) (ps : List Party) (g : ℕ → Bool) → n ≤ length ps
-    → ((j : ℕ) → j < n → g (i + j) ≡ f (at ps j)) → some n f ps ≡ isOn (bits i n g)
+    → ((j : ℕ) → j < n → g (i + j) ≡ f (at ps j)) → some n f ps ≡ hasDriver (bits i n g)
 some-bits i zero f ps g l h = refl
 some-bits i (suc n) f [] g l h = absurd (not-suc-le-zero l)
 some-bits i (suc n) f (p ∷ ps) g l h = ap (λ (x : Bool). f p || x)
     (some-bits (suc i) n f ps g (le-of-suc-le-suc l)
     (λ j m. ap g (suc-add i j ∙ sym (add-suc i j)) ∙ h (suc j) (omega arith)))
-    ∙ ap (λ (x : Bool). x || isOn (bits (suc i) n g)) (sym (ap g (sym (add-zero i)) ∙ h 0 (omega arith)))
+    ∙ ap (λ (x : Bool). x || hasDriver (bits (suc i) n g)) (sym (ap g (sym (add-zero i)) ∙ h 0 (omega arith)))
     ∙ sym (on-more (g i) (bits (suc i) n g))
 
 pub some-mask : (n : ℕ) (f : Party → Bool) (ps : List Party) → n ≤ length ps
-    → some n f ps ≡ isOn (mask n (λ i. f (at ps i)))
+    → some n f ps ≡ hasDriver (mask n (λ i. f (at ps i)))
 some-mask n f ps l = some-bits 0 n f ps (λ i. f (at ps i)) l (λ j _. ap (λ (k : ℕ). f (at ps k)) (zero-add j))
 
 -- The first party is the lowest bit.

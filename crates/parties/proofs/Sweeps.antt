@@ -14,7 +14,7 @@ use Rattle.party.specs.Driving.{isActive, drivesDav, drivesNrfd, drivesNdac, dr
 use Rattle.role.proofs.Logic.{test, cond-elim}
 use Rattle.parties.specs.Types.{Party, Sweep}
 use Rattle.parties.specs.Places.{at, some, talks, otherTalker, within}
-use Rattle.parties.specs.Lines.{scanOf, bits, mask, isOn}
+use Rattle.parties.specs.Lines.{scanOf, bits, mask, hasDriver}
 use Rattle.parties.specs.Sweeping.{sweepOf, pushed, sweptBy, without, firstOf, told}
 use Rattle.parties.proofs.Loops.{within-same, all-15, some-all, other-all}
 use Rattle.parties.proofs.Bits.{down, some-mask, first-mask, without-mask}
@@ -57,7 +57,7 @@ swept-all n k ps l e = let z : n - k ≡ n = omega arith in let y : k ≡ 0 = om
 
 module _ (n : ℕ) (ps : List Party) (z : length ps ≡ 15) where
   -- a line is on where some party drives it
-  pub line-on : (f : Party → Bool) → isOn (mask (within n) (λ i. f (at ps i))) ≡ some n f ps
+  pub line-on : (f : Party → Bool) → hasDriver (mask (within n) (λ i. f (at ps i))) ≡ some n f ps
   line-on f = let w = within-le n in
       sym (some-mask (within n) f ps (omega arith))
       ∙ within-same (λ k. some k f ps) n (all-15 (λ k. some k f ps) n ps z (some-all n f ps))

@@ -54,8 +54,8 @@ abbrev pub howMany : ℕ → (ℕ → Bool) → ℕ
 howMany n f = countFrom 0 n f
 
 -- A line is on exactly where its mask is not 0.
-abbrev pub isOn : ℕ → Bool
-isOn m = not (eqb m 0)
+abbrev pub hasDriver : ℕ → Bool
+hasDriver m = not (eqb m 0)
 
 -- "as the count of ones"
 abbrev pub countsOf : Masks → Counts

@@ -10,7 +10,7 @@ use Rattle.party.specs.Parts.{one}
 use Rattle.party.specs.Driving.{isActive, drivesDav, drivesNrfd, drivesNdac, drivesSrq}
 use Rattle.parties.specs.Types.{Party, Found, Nowhere, At, Masks, Sweep, Scan}
 use Rattle.parties.specs.Places.{place, at, talks}
-use Rattle.parties.specs.Lines.{mask, isOn}
+use Rattle.parties.specs.Lines.{mask, hasDriver}
 
 -- What the pass over n parties finds.
 abbrev pub sweepOf : ℕ → List Party → Sweep
@@ -49,12 +49,12 @@ firstOf m = cond (eqb m 0) Nowhere (At (place (trailingZeros 16 m)))
 abbrev pub told : Sweep → ℕ → Bool → Scan
 told s i eoi = record {
   lines = record {
-    atn = isOn (s .atn);
-    dav = isOn (s .dav);
-    nrfd = isOn (s .nrfd);
-    ndac = isOn (s .ndac);
+    atn = hasDriver (s .atn);
+    dav = hasDriver (s .dav);
+    nrfd = hasDriver (s .nrfd);
+    ndac = hasDriver (s .ndac);
     eoi = eoi;
-    srq = isOn (s .srq);
+    srq = hasDriver (s .srq);
   };
   talker = firstOf (without (s .talk) i);
 }

@@ -4,7 +4,7 @@ ghost use mathlib.Core.Path.{_≡_};
 ghost use mathlib.Core.Bool.{cond};
 ghost use lib.Dec.{eqb};
 ghost use Rattle.parties.specs.Places.{within};
-ghost use Rattle.parties.specs.Lines.{mask, isOn, countsOf};
+ghost use Rattle.parties.specs.Lines.{mask, hasDriver, countsOf};
 ghost use Rattle.parties.specs.Sweeping.{sweepOf, pushed, sweptBy, without, firstOf, told, masksWith};
 use crate::Counts;
 use crate::Found;
@@ -23,8 +23,8 @@ fn pushed(m: u16, on: bool) -> u16
     (m << 1) | (on as u16)
 }
 
-pub fn is_on(m: u16) -> bool
-    ensures { λ r. ⌜ r ≡ isOn m ⌝ }
+pub fn has_driver(m: u16) -> bool
+    ensures { λ r. ⌜ r ≡ hasDriver m ⌝ }
 {
     m != 0
 }
@@ -98,12 +98,12 @@ impl Sweep {
         ensures { λ r. ⌜ r ≡ told self i eoi ⌝ }
     {
         let lines = Lines {
-            atn: is_on(self.atn),
-            dav: is_on(self.dav),
-            nrfd: is_on(self.nrfd),
-            ndac: is_on(self.ndac),
+            atn: has_driver(self.atn),
+            dav: has_driver(self.dav),
+            nrfd: has_driver(self.nrfd),
+            ndac: has_driver(self.ndac),
             eoi,
-            srq: is_on(self.srq),
+            srq: has_driver(self.srq),
         };
         Scan {
             lines,

@@ -13,7 +13,7 @@ returns : tie.Need-returns
 returns c =
     let s = c .before .before .before .before .before .before in
     let a = s .before .args in
-    let atn = c .before .before .before .before .before .is-on .result in
+    let atn = c .before .before .before .before .before .has-driver .result in
     let z : length (a .ps) ≡ 15 = search (needs, length-of-map) in
     rw (
       c .answered .ensures,
@@ -21,7 +21,7 @@ returns c =
       c .before .before .stands .ensures,
       c .before .before .before .before .change-all .ensures,
       each-each (a .self .count) (settled atn) (attended atn) (a .ps),
-      c .before .before .before .before .before .is-on .ensures,
+      c .before .before .before .before .before .has-driver .ensures,
       s .sweep-of .ensures,
       line-on (a .self .count) (a .ps) z isActive,
     ) refl

@@ -7,11 +7,11 @@ returns c =
     simp (
       c .first-of .ensures,
       c .before .without .ensures,
-      c .before .before .is-on5 .ensures,
-      c .before .before .before .is-on4 .ensures,
-      c .before .before .before .before .is-on3 .ensures,
-      c .before .before .before .before .before .is-on2 .ensures,
-      c .before .before .before .before .before .before .is-on .ensures,
+      c .before .before .has-driver5 .ensures,
+      c .before .before .before .has-driver4 .ensures,
+      c .before .before .before .before .has-driver3 .ensures,
+      c .before .before .before .before .before .has-driver2 .ensures,
+      c .before .before .before .before .before .before .has-driver .ensures,
     )
 
 pub told-spec : {M : Type 1} → statement M
