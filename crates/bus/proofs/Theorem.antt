@@ -9,10 +9,10 @@ use lib.ListN.{length, take}
 use borrow.Author.Tests.{eqb-true}
 use Rattle.party.specs.Parts.{one}
 use Rattle.role.proofs.Logic.{no, cond-elim}
-use Rattle.bus.specs.Types.{Party, Active, Standing, Nothing, Byte, Bus, Answer, Call}
+use Rattle.bus.specs.Types.{Party, Active, Strs, Standing, Nothing, Byte, Bus, Answer, Call}
 use Rattle.bus.specs.Types.ruling
 use Rattle.bus.specs.Types.call-of
-use Rattle.bus.specs.Record.{here, refuse, built}
+use Rattle.bus.specs.Record.{here, accept, built}
 use Rattle.addresses.specs.Addresses.{badBuild}
 use Rattle.effect.specs.Stands.{stands}
 use Rattle.bus.specs.Machine as m
@@ -30,10 +30,17 @@ one-sender (Byte s k v x) p q e f = eqb-true p (s .0) e ∙ sym (eqb-true q (s .
 in-charge : (p : Party) → p .control ≡ Active → busy (p .control) ≡ true
 in-charge p e = rw e
 
+-- one driver of DAV, and one of ATN
+pub one-dav : (b : Bus) → Inv b → (p q : ℕ) → here b p .source ≡ Strs → here b q .source ≡ Strs → p ≡ q
+one-dav b I p q e f = one-sender (b .standing) p q (I .pre .sends p e) (I .pre .sends q f)
+
+pub one-atn : (b : Bus) → Inv b → (p q : ℕ) → here b p .control ≡ Active → here b q .control ≡ Active → p ≡ q
+one-atn b I p q e f = I .pre .charge p q (in-charge (here b p) e) (in-charge (here b q) f)
+
 -- From any bus that keeps the invariant, where nothing stands and nothing is held.
 module _ (b : Bus) (I : Inv b) (n : b .standing ≡ Nothing) (h : held b ≡ 0) (cs : List Call) where
   past : Moment
-  past = record { before = b; call = call-of.Lines; answer = refuse ruling.Accepted b }
+  past = record { before = b; call = call-of.Lines; answer = accept b }
 
   goods : (k : ℕ) → k < length cs → Good (busAt b cs k) (moment b cs k .call) (answerAt b cs k)
   unfolding past
@@ -49,10 +56,8 @@ module _ (b : Bus) (I : Inv b) (n : b .standing ≡ Nothing) (h : held b ≡ 0) 
 
   pub delivered-from : Delivered b cs
   delivered-from = record {
-    oneDav = λ k p q e f. let J = run-inv b I (take k cs) in
-        one-sender (m.run b (take k cs) .standing) p q (J .pre .sends p e) (J .pre .sends q f);
-    oneAtn = λ k p q e f. let J = run-inv b I (take k cs) in
-        J .pre .charge p q (in-charge (here (m.run b (take k cs)) p) e) (in-charge (here (m.run b (take k cs)) q) f);
+    oneDav = λ k. one-dav (m.run b (take k cs)) (run-inv b I (take k cs));
+    oneAtn = λ k. one-atn (m.run b (take k cs)) (run-inv b I (take k cs));
     taken = ledger.taken b cs goods links begins;
     silent = ledger.silent b cs goods links begins;
     once = ledger.once b cs goods links begins;

@@ -1,40 +1,38 @@
--- Who drives each line: the counts are those of the parties, and the bits one a party; on every bus of demand 3's lists
--- a line is on where it is driven, and ATN and DAV are driven by one party at the most.
+-- Who drives each line: the counts are those of the parties, and the bits one a party; on every bus there is a
+-- line is on where it is driven, and ATN and DAV are driven by one party at the most.
 -- Assumes nothing.
 use mathlib.Core.Path.{_≡_, refl, sym, ap, _∙_}
 use mathlib.Core.Bool.{true, false, not, _&&_}
 use Prim.Native.Nat.{ℕ, _^_, _≤_, _<_}
 use native.Mathlib.Omega.{arith}
 use native.Mathlib.Nat.{zero-add, lt-of-lt-of-le}
-use lib.ListN.{take}
 use lib.Dec.{ltb}
 use lib.Seq.{set-getD}
 use lib.Pow.{pow-pos, pow-mono}
 use borrow.Author.Tests.{ltb-true, ltb-false, lt-ltb, ne-eqb, eq-eqb}
 use Rattle.party.specs.Parts.{idle, one}
-use Rattle.party.specs.Driving.{active, davAt, isActive, drivesDav, drivesNrfd, drivesNdac, drivesSrq}
+use Rattle.party.specs.Driving.{isActive, drivesDav, drivesNrfd, drivesNdac, drivesSrq}
 use Rattle.role.proofs.Logic.{no, test}
 use Rattle.party.specs.Settling.{settled}
 use Rattle.parties.specs.Places.{within}
 use Rattle.parties.proofs.Places.{each-still}
-use Rattle.parties.specs.Lines.{mask, isOn}
+use Rattle.parties.specs.Lines.{mask, hasDriver}
 use Rattle.parties.proofs.Bits.{bits-lt, bit-at, bits-none, bit-alone, one-counted}
 use Rattle.parties.proofs.Sweeps.{within-le, line-on}
 use Rattle.effect.specs.Stands.{hasEnd, sendsEnd}
 use Rattle.bus.specs.declared.Bus.{Bus}
-use Rattle.bus.specs.Types.{Party, Control, Idle, Standby, Active, Source, Sids, Sgns, Sdys, Strs}
-use Rattle.bus.specs.Types.{Standing, Nothing, Byte}
+use Rattle.bus.specs.Types.{Party, Standing, Nothing, Byte}
 use Rattle.bus.specs.Types.ruling
 use Rattle.bus.specs.Types.call-of
-use Rattle.bus.specs.Record.{here, refuse, buildExtended}
+use Rattle.bus.specs.Record.{here, accept}
 use Rattle.bus.specs.Settling.{deserted}
 use Rattle.bus.specs.Machine as m
-use Rattle.bus.specs.Delivery.{busAfter}
 use Rattle.bus.specs.Drivers.{Line, Atn, Dav, Nrfd, Ndac, Eoi, Srq, drives, maskOf}
-use Rattle.bus.proofs.Invariant.{Inv, sentBy, atnOf}
-use Rattle.bus.proofs.Theorem.{delivery}
-use Rattle.bus.proofs.Reached.{reached, sender-is-source}
+use Rattle.bus.proofs.Invariant.{Inv, sentBy, atnOf, is-active, is-strs}
+use Rattle.bus.proofs.Theorem.{one-dav, one-atn}
+use Rattle.bus.proofs.Reached.{sender-is-source}
 use Rattle.bus.proofs.Driving as driving
+use Rattle.runner.proofs.Lists.{led-inv}
 use Rattle.driver_laws.specs.Laws.{isDriven, CountOfOnes, OnePerParty, FifteenBits, NeverRefused, LeavesAsLines}
 use Rattle.driver_laws.specs.Laws.{OnWhereDriven, ChangesNothing, OneDriver}
 
@@ -71,9 +69,9 @@ sender-inside b I s e =
     out l = let z = ap (λ (p : Party). p .source) (I .pre .tail s (rw all at l)) in let y = I .pre .sent s e in no (cc)
 
 end-on : (b : Bus) → Inv b → (st : Standing) → b .standing ≡ st
-    → hasEnd st ≡ isOn (mask (within (b .count)) (λ i. sendsEnd i st))
-end-on b I Nothing e = ap isOn (sym (bits-none 0 (within (b .count)) (λ i. false) (λ i. refl)))
-end-on b I (Byte s k v false) e = ap isOn (sym (bits-none 0 (within (b .count)) (λ i. false) (λ i. refl)))
+    → hasEnd st ≡ hasDriver (mask (within (b .count)) (λ i. sendsEnd i st))
+end-on b I Nothing e = ap hasDriver (sym (bits-none 0 (within (b .count)) (λ i. false) (λ i. refl)))
+end-on b I (Byte s k v false) e = ap hasDriver (sym (bits-none 0 (within (b .count)) (λ i. false) (λ i. refl)))
 end-on b I (Byte s k v true) e =
     let l = sender-inside b I (s .0) (rw e (eq-eqb (s .0) (s .0) refl)) in
     rw (bit-alone (within (b .count)) (s .0), lt-ltb (s .0) (within (b .count)) l)
@@ -82,7 +80,7 @@ end-on b I (Byte s k v true) e =
     bad : 2 ^ s .0 ≡ 0 → ⊥
     bad z = let h = pow-pos (s .0) in omega arith
 
-on : (b : Bus) → Inv b → (l : Line) → isDriven l b ≡ isOn (maskOf l b)
+on : (b : Bus) → Inv b → (l : Line) → isDriven l b ≡ hasDriver (maskOf l b)
 on b I Atn = sym (line-on (b .count) (b .parties) (I .size) isActive)
 on b I Dav = sym (line-on (b .count) (b .parties) (I .size) drivesDav)
 on b I Nrfd = sym (line-on (b .count) (b .parties) (I .size) drivesNrfd)
@@ -91,15 +89,14 @@ on b I Eoi = end-on b I (b .standing) refl
 on b I Srq = sym (line-on (b .count) (b .parties) (I .size) drivesSrq)
 
 pub on-where-driven : OnWhereDriven
-on-where-driven names system ok cs k l =
-    on (busAfter (buildExtended names system .bus) cs k) (reached names system ok (take k cs)) l
+on-where-driven b led = on b (led-inv b led)
 
 -- Every party has settled and the sender of what stands is a source, so settling once more changes nothing.
 sender-stays : (b : Bus) → Inv b → (st : Standing) → b .standing ≡ st → deserted (atnOf b) (b .parties) st ≡ false
 sender-stays b I Nothing e = refl
 sender-stays b I (Byte s k v x) e = ap not (sender-is-source b I s k v x e)
 
-still : (b : Bus) → Inv b → m.call b call-of.Drivers ≡ refuse ruling.Accepted b
+still : (b : Bus) → Inv b → m.call b call-of.Drivers ≡ accept b
 still b I =
     rw (
       set-getD (b .parties) 0 idle,
@@ -108,27 +105,13 @@ still b I =
     ) refl
 
 pub changes-nothing : ChangesNothing
-changes-nothing names system ok cs k =
-    still (busAfter (buildExtended names system .bus) cs k) (reached names system ok (take k cs))
-
--- A corollary of demand 3: at most one party drives ATN, and so DAV.
-is-active : (c : Control) → active c ≡ true → c ≡ Active
-is-active Idle e = no (cc)
-is-active Standby e = no (cc)
-is-active Active e = refl
-
-is-strs : (s : Source) → davAt s ≡ true → s ≡ Strs
-is-strs Sids e = no (cc)
-is-strs Sgns e = no (cc)
-is-strs Sdys e = no (cc)
-is-strs Strs e = refl
+changes-nothing b led = still b (led-inv b led)
 
 pub one-driver : OneDriver
-one-driver names system ok cs k =
-    let b = busAfter (buildExtended names system .bus) cs k in
-    let d = delivery names system ok cs in (
+one-driver b led =
+    let I = led-inv b led in (
       one-counted 0 (within (b .count)) (drives Atn b)
-          (λ p q e f. d .oneAtn k p q (is-active (here b p .control) e) (is-active (here b q .control) f)),
+          (λ p q e f. one-atn b I p q (is-active (here b p .control) e) (is-active (here b q .control) f)),
       one-counted 0 (within (b .count)) (drives Dav b)
-          (λ p q e f. d .oneDav k p q (is-strs (here b p .source) e) (is-strs (here b q .source) f)),
+          (λ p q e f. one-dav b I p q (is-strs (here b p .source) e) (is-strs (here b q .source) f)),
     )

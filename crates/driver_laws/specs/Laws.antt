@@ -4,20 +4,18 @@
 use Prim.Native.Nat.{ℕ, _/_, _%_, _^_, _≤_, _<_}
 use mathlib.Core.Path.{_≡_}
 use mathlib.Core.Bool.{Bool, false, _&&_}
-use mathlib.Core.List.{List}
 use lib.Dec.{ltb}
 use lib.Count.{ones}
 use Rattle.party.specs.Parts.{one}
 use Rattle.parties.specs.Places.{within}
-use Rattle.parties.specs.Lines.{isOn}
+use Rattle.parties.specs.Lines.{hasDriver}
 use Rattle.bus.specs.declared.Bus.{Bus}
-use Rattle.bus.specs.Types.{Place, Name, Call}
 use Rattle.bus.specs.Types.ruling
 use Rattle.bus.specs.Types.ev
 use Rattle.bus.specs.Types.call-of
-use Rattle.bus.specs.Record.{lines, refuse, buildExtended}
+use Rattle.bus.specs.Record.{lines, accept}
 use Rattle.bus.specs.Machine as m
-use Rattle.bus.specs.Delivery.{busAfter}
+use Rattle.runner.specs.Lists.{LedTo}
 use Rattle.bus.specs.Drivers.{Line, Atn, Dav, Nrfd, Ndac, Eoi, Srq, drives, maskOf, driversOf}
 
 -- "as the count of ones", on every bus.
@@ -50,21 +48,15 @@ isDriven Ndac b = lines b .ndac
 isDriven Eoi b = lines b .eoi
 isDriven Srq b = lines b .srq
 
--- On every bus of demand 3's lists a line is on exactly where its mask is not 0.
+-- On every bus that a start, calls and runs lead to a line is on exactly where its mask is not 0.
 abbrev pub OnWhereDriven : Type 0
-OnWhereDriven = (names : List Name) (system : Place) → buildExtended names system .refusal ≡ ruling.Accepted
-    → (cs : List Call) (k : ℕ) (l : Line)
-    → let b = busAfter (buildExtended names system .bus) cs k in isDriven l b ≡ isOn (maskOf l b)
+OnWhereDriven = (b : Bus) → LedTo b → (l : Line) → isDriven l b ≡ hasDriver (maskOf l b)
 
--- On every bus of demand 3's lists the call changes nothing: it is accepted with event none, nothing is dropped or
--- broken off, and the bus is as it was.
+-- There the call changes nothing: it is accepted with event none, nothing is dropped or broken off, and the bus is as
+-- it was.
 abbrev pub ChangesNothing : Type 0
-ChangesNothing = (names : List Name) (system : Place) → buildExtended names system .refusal ≡ ruling.Accepted
-    → (cs : List Call) (k : ℕ)
-    → let b = busAfter (buildExtended names system .bus) cs k in m.call b call-of.Drivers ≡ refuse ruling.Accepted b
+ChangesNothing = (b : Bus) → LedTo b → m.call b call-of.Drivers ≡ accept b
 
--- On every bus of demand 3's lists nobody or one party drives ATN, and so DAV.
+-- There nobody or one party drives ATN, and so DAV.
 abbrev pub OneDriver : Type 0
-OneDriver = (names : List Name) (system : Place) → buildExtended names system .refusal ≡ ruling.Accepted
-    → (cs : List Call) (k : ℕ)
-    → let b = busAfter (buildExtended names system .bus) cs k in (driversOf Atn b ≤ 1) × (driversOf Dav b ≤ 1)
+OneDriver = (b : Bus) → LedTo b → (driversOf Atn b ≤ 1) × (driversOf Dav b ≤ 1)

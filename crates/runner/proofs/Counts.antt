@@ -10,10 +10,10 @@ use lib.Seq.{getD-set-same, getD-set-other}
 use lib.Dec.{eqb}
 use borrow.Author.Tests.{eqb-true, eqb-false}
 use Rattle.party.specs.Parts.{one}
+use Rattle.bus.specs.declared.Bus.{Bus}
 use Rattle.bus.specs.Machine as m
 use Rattle.bus.specs.Delivery.{tally, history}
-use Rattle.runner.specs.Types.{Bus}
-use Rattle.turn_laws.specs.Turns.{stepOf, steps}
+use Rattle.runner.specs.Runner.{stepOf, steps}
 use Rattle.runner.specs.Runner.{turnsOf, counted, isStepOf, Counts}
 use Rattle.runner.proofs.Queue.{wait-zero}
 

@@ -1,30 +1,7 @@
 -- The examples hold: the definitions compute them.
 -- Assumes nothing.
-use mathlib.Core.Path.{_≡_, refl}
-use mathlib.Core.Bool.{true}
-use Prim.Native.Nat.{ℕ, zero, suc, _<_}
-use native.Mathlib.Nat.{not-suc-le-zero, le-of-suc-le-suc}
-use Rattle.bus.specs.Record.{here}
-use Rattle.runner.specs.Types.{Empty}
-use Rattle.runner.specs.Bound.{Offered}
-use Rattle.runner.specs.Examples.{slow, after, Examples}
-
-offered : Offered (after slow) 0 1 65 true
-offered = record {
-  there = lib.Dec.lit< tt;
-  quiet = refl;
-  talks = refl;
-  unpolled = refl;
-  ready = refl;
-  held = refl;
-  listens = refl;
-  empty = each;
-}
-  where
-    each : (j : ℕ) → j < 2 → here (after slow) j .input ≡ Empty
-    each zero l = refl
-    each (suc zero) l = refl
-    each (suc (suc j)) l = absurd (not-suc-le-zero (le-of-suc-le-suc (le-of-suc-le-suc l)))
+use mathlib.Core.Path.{refl}
+use Rattle.runner.specs.Examples.{Examples}
 
 pub examples : Examples
 examples = record {
@@ -33,8 +10,5 @@ examples = record {
   fromTheTop = refl;
   script = refl;
   scriptEnds = refl;
-  premises = offered;
-  notInFiveRounds = refl;
-  inOneTurnMore = refl;
   nobody = refl;
 }

@@ -12,11 +12,13 @@ use lib.Dec.{ltb}
 use borrow.Author.Tests.{ne-eqb}
 use Rattle.role.proofs.Logic.{cond-elim}
 use Rattle.parties.specs.Places.{within}
+use Rattle.bus.specs.declared.Bus.{Bus}
+use Rattle.bus.specs.declared.Answer.{Answer}
 use Rattle.bus.specs.Machine as m
-use Rattle.runner.specs.Types.{Bus, Answer, Given}
-use Rattle.runner.specs.Types.ruling
+use Rattle.runner.specs.declared.Given.{Given}
+use Rattle.bus.specs.Types.ruling
 use Rattle.runner.specs.Waiting.{byPlace, turns}
-use Rattle.turn_laws.specs.Turns.{stepOf, steps}
+use Rattle.runner.specs.Runner.{stepOf, steps}
 use Rattle.runner.specs.Runner.{counted, giveTurns}
 use Rattle.runner.proofs.Queue.{wait-zero}
 use Rattle.runner.proofs.InOrder.{place-orders, round-robin, turn-by-place}

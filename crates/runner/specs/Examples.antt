@@ -1,27 +1,22 @@
 -- Worked examples of the runner, computed from the definitions.
 -- Assumes nothing.
-use Prim.Native.Nat.{ℕ}
 use mathlib.Core.Path.{_≡_}
 use mathlib.Core.Bool.{true}
 use mathlib.Core.List.{List, [], _∷_}
 use lib.Dec.{ltb}
 use lib.ListN.{replicate}
-use Rattle.party.specs.Parts.{one}
 use Rattle.parties.specs.Places.{place}
+use Rattle.bus.specs.declared.Bus.{Bus}
 use Rattle.bus.specs.Record.{build, noParties}
 use Rattle.bus.specs.Machine as m
-use Rattle.bus.specs.Delivery.{isEnd, tally, history}
 use Rattle.bus.specs.Rows.{Report, reported}
-use Rattle.runner.specs.Types.{Bus}
-use Rattle.runner.specs.Types.ruling
-use Rattle.runner.specs.Types.ev
-use Rattle.runner.specs.Types.call-of
-use Rattle.runner.specs.Types.act-of
+use Rattle.bus.specs.Types.ruling
+use Rattle.bus.specs.Types.ev
+use Rattle.bus.specs.Types.call-of
+use Rattle.bus.specs.Types.act-of
 use Rattle.runner.specs.Waiting.{byPlace, longestWaiting, turns}
-use Rattle.turn_laws.specs.Turns.{steps}
-use Rattle.runner.specs.Runner.{turnsOf, giveTurns}
-use Rattle.runner.specs.Bound.{Offered}
-use Rattle.runner.specs.Lists.{Act, call, run, acted}
+use Rattle.runner.specs.Runner.{giveTurns}
+use Rattle.runner.specs.Lists.{Act, call, acted}
 
 -- Of document 01's script the calls before the first step: party 0 talks, party 1 listens, 41 with END is held.
 abbrev before : List Act
@@ -30,17 +25,6 @@ before = call (call-of.Of (place 0) (act-of.TalkOnly 1)) ∷ call (call-of.Of (p
 
 abbrev pub after : List Act → Bus
 after xs = acted (λ b. byPlace) (build (5 ∷ 6 ∷ []) (place 0) .bus) xs
-
--- Party 1 has taken a byte that was then broken off, and 41 waits: it has three turns to go before it is ready.
-abbrev pub slow : List Act
-slow = call (call-of.Of (place 0) (act-of.TalkOnly 1)) ∷ call (call-of.Of (place 1) (act-of.ListenOnly 1)) ∷ call
-    (call-of.Of (place 0) (act-of.Write 64 0)) ∷ run 4
-    ∷ call (call-of.Of (place 0) (act-of.TalkOnly 0)) ∷ call (call-of.Of (place 1) act-of.Read) ∷ call
-    (call-of.Of (place 0) (act-of.TalkOnly 1)) ∷ call (call-of.Of (place 0) (act-of.Write 65 1)) ∷ []
-
--- How many bytes end in the first t turns of a run.
-abbrev ended : List Act → ℕ → ℕ
-ended xs t = tally (λ x. one (isEnd (x .answer .event))) (history (after xs) (steps (turnsOf byPlace (after xs) t)))
 
 abbrev 41-is-read : Report
 41-is-read = record { refusal = ruling.Accepted; event = ev.Read; byte = 65; end = true; dropped = 0; broken = 0 }
@@ -55,11 +39,6 @@ pub record Examples : Type 0 where
   pub script : giveTurns byPlace (after before) 7 .counts ≡ (4 ∷ 3 ∷ replicate 13 0)
   pub scriptEnds : reported (m.call (giveTurns byPlace (after before) 7 .bus) (call-of.Of (place 1) act-of.Read))
       ≡ 41-is-read
-  -- five times n turns are not always enough to end a byte: here the bound's premises hold, n is 2, and the eleventh
-  -- turn ends it
-  pub premises : Offered (after slow) 0 1 65 true
-  pub notInFiveRounds : ended slow 10 ≡ 0
-  pub inOneTurnMore : ended slow 11 ≡ 1
   -- "a bus of no parties is refused with 1, all counts 0"
   pub nobody : giveTurns byPlace noParties 65535
       ≡ record { refusal = ruling.NoParty; counts = replicate 15 0; bus = noParties }

@@ -1,7 +1,5 @@
 -- The runner of document 02, Q-1: who has the next turn, what a run of turns answers, and what is proved of it.
-pub mod Types
 pub mod Waiting
 pub mod Runner
 pub mod Lists
-pub mod Bound
 pub mod Examples

@@ -1,16 +1,17 @@
--- Lists of calls and runs: "In a list of demand 3 a run stands for its steps" (document 02, Q-1).
+-- Lists of calls and runs, "In a list of demand 3 a run stands for its steps" (document 02, Q-1), and the buses that
+-- they lead to: the buses that the laws of the crates above are about.
 -- Assumes nothing.
 use Prim.Native.Nat.{ℕ}
 use mathlib.Core.Path.{_≡_}
 use mathlib.Core.List.{List, [], _∷_, _++_}
+use Rattle.bus.specs.declared.Bus.{Bus}
 use Rattle.bus.specs.Record.{buildExtended}
 use Rattle.bus.specs.Machine as m
 use Rattle.bus.specs.Delivery.{Delivered}
-use Rattle.runner.specs.Types.{Place, Name, Bus, Call}
-use Rattle.runner.specs.Types.ruling
+use Rattle.bus.specs.Types.{Place, Name, Call}
+use Rattle.bus.specs.Types.ruling
 use Rattle.runner.specs.Waiting.{TieOrder}
-use Rattle.turn_laws.specs.Turns.{steps}
-use Rattle.runner.specs.Runner.{turnsOf, giveTurns}
+use Rattle.runner.specs.Runner.{steps, turnsOf, giveTurns}
 
 -- What a host does: a call, or a run of so many turns.
 pub data Act : Type 0 where
@@ -35,8 +36,20 @@ module _ (tie : Bus → TieOrder) where
 abbrev pub StandsForSteps : Type 0
 StandsForSteps = (tie : Bus → TieOrder) (b : Bus) (xs : List Act) → acted tie b xs ≡ m.run b (expanded tie b xs)
 
--- Demand 3 for every list of calls and runs from a bus that an accepted build gave.
+-- How a bus starts, and what its parties are named: "a bus that an accepted build gave".
+pub data Start (names : List Name) : Bus → Type 0 where
+  built : (system : Place) → buildExtended names system .refusal ≡ ruling.Accepted
+      → Start names (buildExtended names system .bus)
+
+-- The buses that such a start and any list of calls and runs lead to, whatever order ties go by.
+pub data LedFrom (names : List Name) : Bus → Type 0 where
+  led : {b : Bus} → Start names b → (tie : Bus → TieOrder) (xs : List Act) → LedFrom names (acted tie b xs)
+
+-- The buses there are.
+abbrev pub LedTo : Bus → Type 0
+LedTo b = (names : List Name) × LedFrom names b
+
+-- Demand 3 for every list of calls and runs.
 abbrev pub DeliveryWithRuns : Type 0
-DeliveryWithRuns = (tie : Bus → TieOrder) (names : List Name) (system : Place)
-    → buildExtended names system .refusal ≡ ruling.Accepted
-    → (xs : List Act) → Delivered (buildExtended names system .bus) (expanded tie (buildExtended names system .bus) xs)
+DeliveryWithRuns = (names : List Name) (b : Bus) → Start names b → (tie : Bus → TieOrder) (xs : List Act)
+    → Delivered b (expanded tie b xs)

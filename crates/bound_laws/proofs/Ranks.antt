@@ -13,11 +13,12 @@ use Rattle.effect.specs.declared.Effect.{Effect}
 use Rattle.parties.proofs.Places.{some-true}
 use Rattle.effect.specs.Stands.{stands}
 use Rattle.acceptor_step.specs.AcceptorStep.{takes, acceptorIn}
+use Rattle.bus.specs.declared.Bus.{Bus}
 use Rattle.bus.specs.Record.{here, lines}
 use Rattle.bus.specs.Delivery.{isEnd}
 use Rattle.bus.proofs.Invariant.{Inv}
-use Rattle.runner.specs.Types.{Party, Source, Sids, Sgns, Sdys, Strs, Acceptor, Aids, Anrs, Acrs, Acds, Awns}
-use Rattle.runner.specs.Types.{Empty, Standing, Nothing, Byte, Bus}
+use Rattle.bus.specs.Types.{Party, Source, Sids, Sgns, Sdys, Strs, Acceptor, Aids, Anrs, Acrs, Acds, Awns}
+use Rattle.bus.specs.Types.{Empty, Standing, Nothing, Byte}
 
 -- turns wanted before a byte can be put
 abbrev acceptorRank : Acceptor → ℕ

@@ -14,26 +14,25 @@ use Rattle.party.specs.Driving.{isActive}
 use Rattle.party.specs.Sending.{isSource}
 use Rattle.role.proofs.Logic.{no, test, cond-elim}
 use Rattle.parties.specs.Places.{within}
-use Rattle.bus.specs.Record.{here, refuse, buildExtended}
+use Rattle.bus.specs.declared.Bus.{Bus}
+use Rattle.bus.specs.Record.{here, accept}
 use Rattle.bus.specs.Machine as m
 use Rattle.bus.specs.Delivery.{Moment, history, moment, isPut, isEnd}
 use Rattle.bus.proofs.Invariant.{Inv, atnOf, quiet}
 use Rattle.bus.proofs.Putting.{nothing-stands}
-use Rattle.bus.proofs.Reached.{reached}
-use Rattle.runner.specs.Types.{Party, Event, Bus}
-use Rattle.runner.specs.Types.ruling
-use Rattle.runner.specs.Types.ev
-use Rattle.runner.specs.Types.call-of
+use Rattle.bus.specs.Types.{Party, Event}
+use Rattle.bus.specs.Types.ev
+use Rattle.bus.specs.Types.call-of
 use Rattle.runner.specs.Waiting.{TieOrder, byPlace, Orders, inOrder}
-use Rattle.turn_laws.specs.Turns.{stepOf, steps}
-use Rattle.runner.specs.Runner.{turnsOf}
-use Rattle.runner.specs.Bound.{Offered, EndsWithin, EndsSoon, Bound, BoundByPlace}
+use Rattle.runner.specs.Runner.{stepOf, steps, turnsOf}
+use Rattle.bound_laws.specs.Bound.{Offered, EndsWithin, EndsSoon, Bound, BoundByPlace}
+use Rattle.runner.proofs.Lists.{led-inv}
 use Rattle.runner.proofs.Members.{member}
 use Rattle.runner.proofs.Queue.{rota}
 use Rattle.runner.proofs.Rota.{rota-round}
 use Rattle.runner.proofs.InOrder.{order-length, order-member, turns-order, place-orders}
-use Rattle.runner.proofs.Talker.{Waits}
-use Rattle.runner.proofs.Rounds.{rounds, Finishes, Delivers, seven}
+use Rattle.bound_laws.proofs.Talker.{Waits}
+use Rattle.bound_laws.proofs.Rounds.{rounds, Finishes, Delivers, seven}
 
 module _ (n p w v : ℕ) (e : Bool) where
   -- By the places of a list: d is what stands past its end.
@@ -122,7 +121,7 @@ module _ (n p w v : ℕ) (e : Bool) where
 
   ends-within : (b : Bus) (xs ys : List ℕ) → Delivers n p w v e b xs → EndsWithin b (steps (xs ++ ys)) p v e (length xs)
   ends-within b xs ys D =
-      let g = deliver (record { before = b; call = call-of.Lines; answer = refuse ruling.Accepted b }) b xs ys D in
+      let g = deliver (record { before = b; call = call-of.Lines; answer = accept b }) b xs ys D in
       record {
         put = g .put;
         end = g .end;
@@ -234,8 +233,7 @@ bound-from b I tie O p w v e F t l = subst (λ (xs : List ℕ). EndsWithin b (st
         ∙ rota-rounds 7 q (t - 7 * n)
 
 pub bound : Bound
-bound names system ok cs tie = bound-from (m.run (buildExtended names system .bus) cs) (reached names system ok cs) tie
+bound b led = bound-from b (led-inv b led)
 
 pub bound-by-place : BoundByPlace
-bound-by-place names system ok cs = bound names system ok cs byPlace
-    (place-orders (m.run (buildExtended names system .bus) cs .count))
+bound-by-place b led = bound b led byPlace (place-orders (b .count))

@@ -10,15 +10,16 @@ use lib.Dec.{ltb, eqb}
 use borrow.Author.Tests.{eqb-true, eqb-false, ne-eqb, ltb-true, ltb-false, lt-ltb}
 use Rattle.party.specs.Parts.{idle}
 use Rattle.role.proofs.Logic.{no, test, cond-elim, or-right}
+use Rattle.bus.specs.declared.Bus.{Bus}
 use Rattle.bus.specs.Record.{here}
 use Rattle.bus.specs.Machine as m
 use Rattle.bus.specs.Delivery.{isPut}
-use Rattle.runner.specs.Types.{Party, Sgns, Sdys, Bus}
-use Rattle.turn_laws.specs.Turns.{stepOf}
+use Rattle.bus.specs.Types.{Party, Sgns, Sdys}
+use Rattle.runner.specs.Runner.{stepOf}
 use Rattle.runner.proofs.Members.{member, first-in}
-use Rattle.runner.proofs.Ranks.{rank, left, sourceRank, rank-top, left-top}
-use Rattle.runner.proofs.Talker.{Lowers}
-use Rattle.runner.proofs.Talker as talker
+use Rattle.bound_laws.proofs.Ranks.{rank, left, sourceRank, rank-top, left-top}
+use Rattle.bound_laws.proofs.Talker.{Lowers}
+use Rattle.bound_laws.proofs.Talker as talker
 
 -- What all parties want in the course of a round: who is still to come at most K, who has been at most one less.
 abbrev Low : (Party → ℕ) → ℕ → List ℕ → Bus → Type 0

@@ -8,15 +8,14 @@ use mathlib.Core.Path.{_≡_}
 use mathlib.Core.Bool.{Bool, true, false}
 use mathlib.Core.List.{List}
 use Rattle.party.specs.Sending.{isPolled}
-use Rattle.bus.specs.Record.{here, lines, buildExtended}
-use Rattle.bus.specs.Machine as m
+use Rattle.bus.specs.declared.Bus.{Bus}
+use Rattle.bus.specs.Record.{here, lines}
 use Rattle.bus.specs.Delivery.{moment, answerAt, PutAt, EndsAt, StandsAt}
-use Rattle.runner.specs.Types.{Place, Name, Sgns, Empty, Full, Bus, Call}
-use Rattle.runner.specs.Types.ruling
-use Rattle.runner.specs.Types.ev
+use Rattle.bus.specs.Types.{Sgns, Empty, Full, Call}
+use Rattle.bus.specs.Types.ev
 use Rattle.runner.specs.Waiting.{TieOrder, byPlace, Orders}
-use Rattle.turn_laws.specs.Turns.{stepOf, steps}
-use Rattle.runner.specs.Runner.{turnsOf}
+use Rattle.runner.specs.Runner.{stepOf, steps, turnsOf}
+use Rattle.runner.specs.Lists.{LedTo}
 
 -- Party p talks, with the byte v, END e, held, and party w listens. That nobody else talks need not be asked: on these
 -- buses nobody does.
@@ -52,14 +51,10 @@ abbrev pub EndsSoon : TieOrder → Bus → Type 0
 EndsSoon tie b = (p w v : ℕ) (e : Bool) → Offered b p w v e → (t : ℕ) → 7 * b .count ≤ t
     → EndsWithin b (steps (turnsOf tie b t)) p v e (7 * b .count)
 
--- From every bus that an accepted build and any calls lead to, whatever order the ties go by.
+-- From every bus that a start, calls and runs lead to, whatever order the ties go by.
 abbrev pub Bound : Type 0
-Bound = (names : List Name) (system : Place) → buildExtended names system .refusal ≡ ruling.Accepted
-    → (cs : List Call) (tie : TieOrder)
-    → Orders tie (m.run (buildExtended names system .bus) cs .count)
-    → EndsSoon tie (m.run (buildExtended names system .bus) cs)
+Bound = (b : Bus) → LedTo b → (tie : TieOrder) → Orders tie (b .count) → EndsSoon tie b
 
 -- "ties to the lowest party number"
 abbrev pub BoundByPlace : Type 0
-BoundByPlace = (names : List Name) (system : Place) → buildExtended names system .refusal ≡ ruling.Accepted
-    → (cs : List Call) → EndsSoon byPlace (m.run (buildExtended names system .bus) cs)
+BoundByPlace = (b : Bus) → LedTo b → EndsSoon byPlace b

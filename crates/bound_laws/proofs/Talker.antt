@@ -19,6 +19,8 @@ use Rattle.parties.proofs.Places.{some-seen, some-none, some-true}
 use Rattle.effect.specs.Stands.{stands}
 use Rattle.effect.specs.Effects.{say, does, stay}
 use Rattle.source_step.specs.SourceStep.{put, noacc, ended, sourceStep}
+use Rattle.bus.specs.declared.Bus.{Bus}
+use Rattle.bus.specs.declared.Answer.{Answer}
 use Rattle.bus.specs.Record.{here, lines}
 use Rattle.bus.specs.Settling.{settle, follow}
 use Rattle.bus.specs.Machine as m
@@ -28,15 +30,15 @@ use Rattle.bus.proofs.Accepting.{stands-dav}
 use Rattle.bus.proofs.Summary.{Shape, keeps, puts, ends, breaks}
 use Rattle.bus.proofs.EachCall.{call-good}
 use Rattle.bus.proofs.Reached.{one-source}
-use Rattle.runner.specs.Types.{Party, Source, Sids, Sgns, Sdys, Strs, Aids, Anrs, Empty, Full, Data, Standing}
-use Rattle.runner.specs.Types.{Nothing, Byte, Bus, Said, Answer, Call}
-use Rattle.runner.specs.Types.ev
-use Rattle.turn_laws.specs.Turns.{stepOf}
+use Rattle.bus.specs.Types.{Party, Source, Sids, Sgns, Sdys, Strs, Aids, Anrs, Empty, Full, Data, Standing}
+use Rattle.bus.specs.Types.{Nothing, Byte, Said, Call}
+use Rattle.bus.specs.Types.ev
+use Rattle.runner.specs.Runner.{stepOf}
 use Rattle.turn_laws.proofs.Local.{local, touch-local, set-here, local-other, local-same, local-atn, source-step}
 use Rattle.turn_laws.proofs.Local.{Accepts, acts, atn-kept, standing-kept, count-kept, other-kept, own-next, event-of}
 use Rattle.turn_laws.proofs.Local.{broken-of, inv-kept}
-use Rattle.runner.proofs.Ranks.{rank, left, tick, tick-rank, tick-part, tick-acceptor, tick-input, tock-left}
-use Rattle.runner.proofs.Ranks.{tock-event, no-rank-no-nrfd, none-left-no-ndac, ready-holds-ndac, dav-off}
+use Rattle.bound_laws.proofs.Ranks.{rank, left, tick, tick-rank, tick-part, tick-acceptor, tick-input, tock-left}
+use Rattle.bound_laws.proofs.Ranks.{tock-event, no-rank-no-nrfd, none-left-no-ndac, ready-holds-ndac, dav-off}
 
 -- a source keeps its state when it settles
 settled-sdys : (t : Bool) (q : Party) → isSource t q ≡ true → q .source ≡ Sdys → settled t q .source ≡ Sdys
