@@ -13,7 +13,7 @@ use Rattle.names.specs.Names.{plain}
 use Rattle.message.specs.declared.Meaning.the-variants.{Other}
 use Rattle.party.specs.Parts.{idle}
 use Rattle.offer.specs.Offer.{isFull}
-use Rattle.party.specs.Driving.{isActive}
+use Rattle.party.specs.Driving.{active, davAt, isActive}
 use Rattle.role.specs.Roles.{roleHeard}
 use Rattle.party.specs.Sending.{isSource, isPolled}
 use Rattle.party.specs.Settling.{settled}
@@ -23,7 +23,8 @@ use Rattle.party.proofs.Settled.{newborn-still, settled-strs, settled-keeps, se
 use Rattle.party.proofs.Settled.{source-of-active}
 use Rattle.parties.specs.Places.{at, some, each}
 use Rattle.parties.proofs.Places.{at-each-all, some-each, length-each}
-use Rattle.bus.specs.Types.{Party, Control, Idle, Standby, Active, Sids, Strs, Acceptor, Aids, Anrs, Acrs, Acds}
+use Rattle.bus.specs.Types.{Party, Control, Idle, Standby, Active, Source, Sids, Sgns, Sdys, Strs}
+use Rattle.bus.specs.Types.{Acceptor, Aids, Anrs, Acrs, Acds}
 use Rattle.bus.specs.Types.{Awns, Kind, Command, Data, Status, Meaning, Role, Standing, Nothing, Byte, Bus, Said}
 use Rattle.bus.specs.Record.{here}
 use Rattle.effect.specs.Stands.{stands, hasEnd, ofCommand}
@@ -82,6 +83,17 @@ is-acrs Anrs e = no (cc)
 is-acrs Acrs e = refl
 is-acrs Acds e = no (cc)
 is-acrs Awns e = no (cc)
+
+pub is-strs : (s : Source) → davAt s ≡ true → s ≡ Strs
+is-strs Sids e = no (cc)
+is-strs Sgns e = no (cc)
+is-strs Sdys e = no (cc)
+is-strs Strs e = refl
+
+pub is-active : (c : Control) → active c ≡ true → c ≡ Active
+is-active Idle e = no (cc)
+is-active Standby e = no (cc)
+is-active Active e = refl
 
 -- party j has yet to hear what stands
 abbrev pub waits : Standing → ℕ → Acceptor → Bool
@@ -231,11 +243,11 @@ module _ (n : ℕ) (ps : List Party) (l : n ≤ length ps) (tail : (j : ℕ) →
   seen-still e = subst₂ (λ (x : Bool) (w : ℕ → Party). Still x w)
       (sym (some-each n isActive (settled t) ps (λ p. refl) ∙ e)) (sym as-seen) (λ j. settled-twice t (at ps j))
 
-not-false : (x : Bool) → not x ≡ false → x ≡ true
+pub not-false : (x : Bool) → not x ≡ false → x ≡ true
 not-false true e = refl
 not-false false e = no (cc)
 
-not-true : (x : Bool) → not x ≡ true → x ≡ false
+pub not-true : (x : Bool) → not x ≡ true → x ≡ false
 not-true true e = no (cc)
 not-true false e = refl
 

@@ -11,15 +11,35 @@ use Rattle.party.specs.Settling.{settled}
 use Rattle.role.proofs.Logic.{no, test, cond-elim}
 use Rattle.party.proofs.Settled.{settled-source}
 use Rattle.bus.specs.Types.{Place, Name, Party, Sids, Strs, Aids, Acrs, Kind, Command, Data, Status, Byte, Bus}
-use Rattle.bus.specs.Types.{Answer, Call}
+use Rattle.bus.specs.Types.{Answer, Call, After, Effect}
 use Rattle.bus.specs.Types.ruling
-use Rattle.bus.specs.Record.{here, built, buildExtended}
+use Rattle.bus.specs.Types.after
+use Rattle.effect.specs.Calls.{isAccepted, placeOf}
+use Rattle.accepted.specs.Accepted.{effectOf}
+use Rattle.bus.specs.Record.{here, lines, built, buildExtended}
+use Rattle.bus.specs.Settling.{followed}
 use Rattle.addresses.specs.Addresses.{badBuild}
 use Rattle.bus.specs.Machine as m
 use Rattle.bus.proofs.Invariant.{sentBy, ofStatus, ofData, standsOf, Inv, atnOf, quiet}
 use Rattle.bus.proofs.Putting.{source-unique}
 use Rattle.bus.proofs.Built.{built-inv}
 use Rattle.bus.proofs.EachCall.{run-inv}
+
+-- a refused call leaves the bus, whatever bus it is
+pub refused-leaves : (b : Bus) (c : Call) → isAccepted (m.call b c .refusal) ≡ false → m.call b c .bus ≡ b
+refused-leaves b c =
+    let l = lines b in
+    let e = effectOf (m.viewAt (placeOf c) l b) c in
+    cond-elim (λ (a : Answer). isAccepted (a .refusal) ≡ false → a .bus ≡ b) (isAccepted (m.refusal l b c))
+    (λ _. followed-accepted (e .after) e)
+    (λ _ _. refl)
+  where
+    followed-accepted : (x : After) (e : Effect) → let a = followed x (lines b .atn) b (placeOf c .0) e in
+        isAccepted (a .refusal) ≡ false → a .bus ≡ b
+    followed-accepted after.Settle e h = no (cc)
+    followed-accepted (after.Pass j) e h = no (cc)
+    followed-accepted after.Attend e h = no (cc)
+    followed-accepted after.Clear e h = no (cc)
 
 -- the bus keeps the invariant
 pub reached : (xs : List Name) (s : Place) → buildExtended xs s .refusal ≡ ruling.Accepted → (cs : List Call)

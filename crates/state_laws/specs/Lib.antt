@@ -1,0 +1,2 @@
+-- What holds of every bus there is, and of every answer.
+pub mod States
