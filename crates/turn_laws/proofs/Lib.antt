@@ -5,9 +5,13 @@
 -- Noacc. An acceptor that drives neither NRFD nor NDAC is in AIDS and stays there; the source that nobody answers stays
 -- as it is. So no turn changes the bus.
 --
+-- OnOffer. Whatever call comes, a party in SDYS whose byte is on offer afterwards is in SDYS: settling leaves it, and
+-- attention takes the byte off offer, or is not for that party to see.
+--
 -- Named. No call changes a party's name, on any bus: whatever a call does, and whatever follows on it, leaves it.
 -- Assumes nothing.
 pub mod Examples
 pub mod Local
 pub mod Noacc
+pub mod OnOffer
 pub mod Named

@@ -33,7 +33,7 @@ use Rattle.bus.specs.declared.Answer.{Answer}
 use Rattle.bus.specs.Types.{Party, Acceptor, Aids, Anrs, Acrs, Acds, Awns, Standing, Nothing, Byte, Effect, Said, View}
 use Rattle.bus.specs.Types.after
 use Rattle.bus.specs.Types.ruling
-use Rattle.turn_laws.specs.Turns.{stepOf}
+use Rattle.runner.specs.Runner.{stepOf}
 
 each-set : (n : ℕ) (f : Party → Party) (ps : List Party) (i : ℕ) (q : Party) → i < n → ((j : ℕ) → f (at ps j) ≡ at ps j)
     → each n f (set ps i q) ≡ set ps i (f q)

@@ -23,7 +23,7 @@ use Rattle.acceptor_step.specs.AcceptorStep.{takes, acceptorIn}
 use Rattle.accepted.specs.Accepted.{effectOf}
 use Rattle.host_calls.specs.HostCalls.{readOut}
 use Rattle.addresses.specs.Addresses.{badBuild}
-use Rattle.bus.specs.Record.{here, lines, buildExtended}
+use Rattle.bus.specs.Record.{here, lines}
 use Rattle.bus.specs.Settling.{followed}
 use Rattle.bus.specs.Machine as m
 use Rattle.bus.specs.declared.Bus.{Bus}
@@ -35,6 +35,8 @@ use Rattle.bus.specs.Types.after
 use Rattle.bus.specs.Types.call-of
 use Rattle.bus.specs.Types.act-of
 use Rattle.bus.proofs.Built.{placed-at, fits}
+use Rattle.runner.specs.Lists.{expanded, built, led}
+use Rattle.runner.proofs.Lists.{stands-for-steps}
 use Rattle.turn_laws.specs.Turns.{nameAt, Named}
 
 abbrev nameOf : Party → Name
@@ -137,7 +139,8 @@ run-names b [] j = refl
 run-names b (c ∷ cs) j = run-names (m.call b c .bus) cs j ∙ call-names b c j
 
 pub named : Named
-named names system ok cs p h = run-names (buildExtended names system .bus) cs p
+named names _ (led {b} (built system ok) tie xs) p h =
+    ap (λ (c : Bus). nameAt c p) (stands-for-steps tie b xs) ∙ run-names b (expanded tie b xs) p
     ∙ cond-elim (λ (a : Answer). a .refusal ≡ ruling.Accepted → nameAt (a .bus) p ≡ getD names p (plain (address 0)))
     (badBuild names system)
     (λ _ r. no (cc))

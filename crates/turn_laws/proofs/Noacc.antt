@@ -19,12 +19,12 @@ use Rattle.parties.proofs.Places.{some-none}
 use Rattle.effect.specs.Effects.{say}
 use Rattle.source_step.specs.SourceStep.{put, noacc, ready, ended, sourceIn}
 use Rattle.acceptor_step.specs.AcceptorStep.{takes, acceptorIn}
-use Rattle.bus.specs.Record.{here, lines, buildExtended}
+use Rattle.bus.specs.Record.{here, lines}
 use Rattle.bus.specs.Settling.{answered, follow}
 use Rattle.bus.specs.Machine as m
 use Rattle.bus.proofs.Invariant.{Inv, atnOf, quiet}
 use Rattle.bus.proofs.Putting.{nothing-stands}
-use Rattle.bus.proofs.Reached.{reached, one-source}
+use Rattle.bus.proofs.Reached.{one-source}
 use Rattle.bus.specs.declared.Bus.{Bus}
 use Rattle.bus.specs.declared.Answer.{Answer}
 use Rattle.bus.specs.Types.{Party, Source, Sids, Sgns, Sdys, Strs, Acceptor, Aids, Anrs, Acrs, Acds, Awns, Slot, Empty}
@@ -32,7 +32,9 @@ use Rattle.bus.specs.Types.{Full, Kind, Command, Data, Status, Event, Standing,
 use Rattle.bus.specs.Types.{View}
 use Rattle.bus.specs.Types.ev
 use Rattle.bus.specs.Types.after
-use Rattle.turn_laws.specs.Turns.{stepOf, steps, Alone, kept, Keeps, KeepsByte}
+use Rattle.runner.specs.Runner.{stepOf, steps}
+use Rattle.runner.proofs.Lists.{led-inv}
+use Rattle.turn_laws.specs.Turns.{Alone, kept, Keeps, KeepsByte}
 use Rattle.turn_laws.proofs.Local.{local, touch-local, no-step, source-step, as-local, event-of}
 
 -- who drives neither NRFD nor NDAC takes no part
@@ -80,7 +82,7 @@ module _ (b : Bus) (I : Inv b) where
     unfolding kind
     as-noacc = source-step b I p (A .there) (A .source) ∙ rw (A .ready, A .offers, A .quiet, A .nobody) refl
 
-    says : m.call b (stepOf p) ≡ kept b p v e
+    pub says : m.call b (stepOf p) ≡ kept b p v e
     unfolding kind
     says = as-noacc
         ∙ touch-local b I p (A .there) (say ev.Noacc v (endOf kind e) 0) (here b p) (b .standing) (rw none refl)
@@ -92,7 +94,7 @@ module _ (b : Bus) (I : Inv b) where
         (A .quiet) j) (some-none (b .count) drivesNdac (b .parties) refl (I .pre .tail) (A .nobody) j)
 
     -- a turn of whichever party, or of none
-    turn : (j : ℕ) → m.call b (stepOf j) .bus ≡ b
+    pub turn : (j : ℕ) → m.call b (stepOf j) .bus ≡ b
     turn j = test (ltb j (b .count)) (λ h. inside (ltb-true j (b .count) h))
         (λ h. ap (λ (a : Answer). a .bus) (no-step b j h))
       where
@@ -165,7 +167,7 @@ module _ (b : Bus) (I : Inv b) where
         (λ so. by-state so (here b p .source) refl (sym (ap (λ (a : Answer). a .event) (source-step b I p l so)) ∙ h))
         (λ ns. absurd (acceptor-else seen (here b p .acceptor) (sym (event-of b I p (l, ns)) ∙ h)))
 
-  only : (p : ℕ) → m.call b (stepOf p) .event ≡ ev.Noacc → (v : ℕ) × (e : Bool) × Alone b p v e
+  pub only : (p : ℕ) → m.call b (stepOf p) .event ≡ ev.Noacc → (v : ℕ) × (e : Bool) × Alone b p v e
   only p h = test (ltb p (b .count)) (λ t. inside-only p (ltb-true p (b .count) t) h)
       (λ f. let z = ap (λ (a : Answer). a .event) (no-step b p f) in no (cc))
 
@@ -173,4 +175,4 @@ keeps : (b : Bus) → Inv b → Keeps b
 keeps b I = record { says = says b I; again = again b I; only = only b I }
 
 pub keeps-byte : KeepsByte
-keeps-byte names system ok cs = keeps (m.run (buildExtended names system .bus) cs) (reached names system ok cs)
+keeps-byte b led = keeps b (led-inv b led)

@@ -9,8 +9,8 @@ use Rattle.bus.specs.Types.ev
 use Rattle.bus.specs.Types.ruling
 use Rattle.bus.specs.Types.call-of
 use Rattle.bus.specs.Types.act-of
-use Rattle.bus.specs.Rows.{Run, outcome, expected, ok, moved, says, loses, refused, step, write, listenOnly, drop}
-use Rattle.bus.specs.Rows.{clear, standby, run, sends}
+use Rattle.bus.specs.Rows.{Run, outcome, expected, ok, moved, says, loses, refused, step, write, listenOnly}
+use Rattle.bus.specs.Rows.{dropByte, clear, standby, run, sends}
 
 -- A controller with nobody beside it. Its command stays held, so that a second write is refused, until the host drops
 -- it: the source goes back to SGNS.
@@ -23,7 +23,7 @@ command =
     ∷ (step 0, says ev.Noacc 0x3f false)
     ∷ (step 0, says ev.Noacc 0x3f false)
     ∷ (write 0 0x14 0, refused ruling.Full)
-    ∷ (drop 0, loses 1 0)
+    ∷ (dropByte 0, loses 1 0)
     ∷ (step 0, moved)
     ∷ (step 0, ok)
     ∷ [])
@@ -47,7 +47,7 @@ status =
     ∷ (step 0, moved)
     ∷ (step 1, says ev.Stat 0x01 false)
     ∷ (step 0, says ev.Took 0x01 false)
-    ∷ (drop 1, loses 1 0)
+    ∷ (dropByte 1, loses 1 0)
     ∷ [])))
 
 abbrev pub rows : List Run
