@@ -11,7 +11,7 @@ use lib.Dec.{eqb, ltb}
 use borrow.Author.Tests.{eqb-true, eqb-false, ltb-true, ltb-false}
 use Rattle.service.specs.declared.Request.{Request}
 use Rattle.service.specs.declared.Service.the-variants.{Nprs, Aprs}
-use Rattle.service.proofs.Answering.{status-set, status-clear, nprs-leaves}
+use Rattle.service.proofs.Answering.{status-set, status-clear, aprs-answers, nprs-leaves}
 use Rattle.role.proofs.Logic.{no, test, cond-elim}
 use Rattle.addresses.specs.Addresses.{badBuild}
 use Rattle.bus.specs.declared.Bus.{Bus}
@@ -19,13 +19,14 @@ use Rattle.bus.specs.declared.Answer.{Answer}
 use Rattle.bus.specs.Types.{Call}
 use Rattle.bus.specs.Types.ruling
 use Rattle.bus.specs.Types.call-of
-use Rattle.bus.specs.Record.{built, refuse, buildExtended}
+use Rattle.bus.specs.Record as record-of
+use Rattle.bus.specs.Record.{here}
 use Rattle.bus.specs.Machine as m
 use Rattle.bus.specs.Delivery.{Moment, history, moment, busAt, answerAt}
 use Rattle.bus.proofs.Invariant.{Inv}
 use Rattle.bus.proofs.Built.{built-inv}
 use Rattle.bus.proofs.EachCall.{call-good, linked}
-use Rattle.runner.specs.Lists.{expanded}
+use Rattle.runner.specs.Lists.{expanded, built}
 use Rattle.request_laws.specs.Requests.{requestAt, polled, Poll, StatAt, bit64, AsksAt, Left, NoneBetween, First}
 use Rattle.request_laws.specs.Requests.{Waits, Answered, RequestsAnswered, RequestsAnsweredWithRuns}
 use Rattle.request_laws.proofs.Serving.{Served, call-served}
@@ -90,10 +91,13 @@ module _ (b : Bus) (cs : List Call) (p : ℕ)
       go (over f K lf o x j lj mj h) = absurd (none f (K .after) lf (K .puts))
 
   -- a status byte put in NPRS clears nothing
-  spares : (k : ℕ) → StatAt b cs p k → suc k < length cs → requestAt b cs p k .service ≡ Nprs
-      → requestAt b cs p (suc k) .rsv2 ≡ requestAt b cs p k .rsv2
-  spares k t l h = stat-bit b cs p G N k l (stat b cs p G N k t .there) t
-      ∙ ap (λ (q : Request). q .rsv2) (nprs-leaves (requestAt b cs p k) h)
+  clears : (k : ℕ) → StatAt b cs p k → requestAt b cs p k .service ≡ Aprs
+      → here (answerAt b cs k .bus) p .request .rsv2 ≡ false
+  clears k t h = stat b cs p G N k t .bit ∙ aprs-answers (requestAt b cs p k) h
+
+  spares : (k : ℕ) → StatAt b cs p k → requestAt b cs p k .service ≡ Nprs
+      → here (answerAt b cs k .bus) p .request .rsv2 ≡ requestAt b cs p k .rsv2
+  spares k t h = stat b cs p G N k t .bit ∙ ap (λ (q : Request). q .rsv2) (nprs-leaves (requestAt b cs p k) h)
 
   -- the poll that call l is in: its first call, and its last
   abbrev Through : ℕ → ℕ → Type 0
@@ -168,7 +172,7 @@ module _ (b : Bus) (cs : List Call) (p : ℕ)
       )
 
   pub answered : Answered b cs p
-  answered = record { set = set; unset = unset; waits = waits; spares = spares; polls = polls }
+  answered = record { set = set; unset = unset; waits = waits; clears = clears; spares = spares; polls = polls }
 
 -- every call of a list
 all-served : (b : Bus) → Inv b → (cs : List Call) (d : Moment) (k : ℕ) → k < length cs
@@ -178,15 +182,19 @@ all-served b I (c ∷ cs) d zero h = call-served b I c
 all-served b I (c ∷ cs) d (suc k) h = all-served (m.call b c .bus) (call-good b I c .inv) cs d k (le-of-suc-le-suc h)
 
 pub requests-answered : RequestsAnswered
-requests-answered xs s ok cs p = cond-elim (λ (a : Answer). a .refusal ≡ ruling.Accepted → Answered (a .bus) cs p)
-    (badBuild xs s)
+requests-answered xs _ (built s ok) cs p =
+    cond-elim (λ (a : Answer). a .refusal ≡ ruling.Accepted → Answered (a .bus) cs p) (badBuild xs s)
     (λ _ r. no (cc))
-    (λ e _. answered (built xs s) cs p (all-served (built xs s) (built-inv xs s e) cs past)
-    (linked (built xs s) cs past))
+    (λ e _. answered (record-of.built xs s) cs p (all-served (record-of.built xs s) (built-inv xs s e) cs past)
+    (linked (record-of.built xs s) cs past))
     ok
   where
     past : Moment
-    past = record { before = built xs s; call = call-of.Lines; answer = refuse ruling.Accepted (built xs s) }
+    past = record {
+      before = record-of.built xs s;
+      call = call-of.Lines;
+      answer = record-of.accept (record-of.built xs s);
+    }
 
 pub requests-answered-with-runs : RequestsAnsweredWithRuns
-requests-answered-with-runs tie xs s ok acts = requests-answered xs s ok (expanded tie (buildExtended xs s .bus) acts)
+requests-answered-with-runs xs b start tie acts = requests-answered xs b start (expanded tie b acts)

@@ -14,15 +14,15 @@ use Rattle.service.specs.Service.{rsv}
 use Rattle.party.specs.Sending.{isPolled}
 use Rattle.parties.specs.Places.{place}
 use Rattle.bus.specs.declared.Bus.{Bus}
-use Rattle.bus.specs.Types.{Place, Name, Call}
+use Rattle.bus.specs.Types.{Name, Call}
 use Rattle.bus.specs.Types.ruling
 use Rattle.bus.specs.Types.ev
 use Rattle.bus.specs.Types.call-of
 use Rattle.bus.specs.Types.act-of
-use Rattle.bus.specs.Record.{here, lines, buildExtended}
+use Rattle.bus.specs.Record.{here, lines}
 use Rattle.bus.specs.Delivery.{moment, busAt, answerAt}
 use Rattle.runner.specs.Waiting.{TieOrder}
-use Rattle.runner.specs.Lists.{Act, expanded}
+use Rattle.runner.specs.Lists.{Act, expanded, Start}
 
 -- "Polled: ATN false, talk and poll mode on": party p of a bus.
 abbrev pub polledOn : Bus → ℕ → Bool
@@ -103,20 +103,19 @@ module _ (b : Bus) (cs : List Call) (p : ℕ) where
     pub unset : (r s e k l : ℕ) → First r s e k → e < l → StatAt l → Left r l → bit64 l ≡ false
     -- A poll that puts none takes nothing from the request, which waits for the next. It takes the party off SRQ.
     pub waits : (r k : ℕ) → AsksAt r → r < k → k < length cs → NoneBetween r k → Left r k → Waits r k
-    -- A status byte put in NPRS clears nothing: a request that was switched on during that poll outlasts it.
-    pub spares : (k : ℕ) → StatAt k → suc k < length cs → requestAt k .service ≡ Nprs
-        → requestAt (suc k) .rsv2 ≡ requestAt k .rsv2
+    -- "Putting a status byte in APRS clears rsv2 in that same step." One put in NPRS clears nothing: a request that was
+    -- switched on during that poll outlasts it.
+    pub clears : (k : ℕ) → StatAt k → requestAt k .service ≡ Aprs → here (answerAt b cs k .bus) p .request .rsv2 ≡ false
+    pub spares : (k : ℕ) → StatAt k → requestAt k .service ≡ Nprs
+        → here (answerAt b cs k .bus) p .request .rsv2 ≡ requestAt k .rsv2
     -- Every status byte is put in a poll, so that the first and the later ones are all there are.
     pub polls : (l : ℕ) → StatAt l → (s : ℕ) × (e : ℕ) × (Poll s e × (s ≤ l) × (l ≤ e))
 
--- The user's condition: for every list of calls from a bus that an accepted build gave, and every party.
+-- The user's condition: for every list of calls from a start, and every party.
 abbrev pub RequestsAnswered : Type 0
-RequestsAnswered = (names : List Name) (system : Place) → buildExtended names system .refusal ≡ ruling.Accepted
-    → (cs : List Call) (p : ℕ) → Answered (buildExtended names system .bus) cs p
+RequestsAnswered = (names : List Name) (b : Bus) → Start names b → (cs : List Call) (p : ℕ) → Answered b cs p
 
 -- The same for every list of calls and runs: "In a list of demand 3 a run stands for its steps" (document 02, Q-1).
 abbrev pub RequestsAnsweredWithRuns : Type 0
-RequestsAnsweredWithRuns = (tie : Bus → TieOrder) (names : List Name) (system : Place)
-    → buildExtended names system .refusal ≡ ruling.Accepted
-    → (xs : List Act) (p : ℕ) → Answered (buildExtended names system .bus) (expanded tie
-    (buildExtended names system .bus) xs) p
+RequestsAnsweredWithRuns = (names : List Name) (b : Bus) → Start names b → (tie : Bus → TieOrder) (xs : List Act)
+    (p : ℕ) → Answered b (expanded tie b xs) p
