@@ -17,7 +17,7 @@ use Rattle.image.specs.Image.{markNumber, hasSecondary, secondaryNumber,
 use Rattle.image.specs.Image.{acceptorNumber, serviceNumber, slotValue, slotEnd, standingTag, standingSender}
 use Rattle.image.specs.Image.{standingValue, rowOf, lastRow, rowsOf}
 use Rattle.image.specs.Image.{flag, markOf, secondaryOf, controlOf, sourceOf, acceptorOf, serviceOf, slotOf}
-use Rattle.image.specs.Image.{standingOf, partyOf, busOf}
+use Rattle.image.specs.Image.{standingOf, partyOf, busOf, ReadBack}
 
 flag-kept : (x : Bool) → flag (one x) ≡ x
 flag-kept true = refl
@@ -73,7 +73,7 @@ parties-kept : (ps : List Party) → map partyOf (map rowOf ps) ≡ ps
 parties-kept [] = refl
 parties-kept (p ∷ ps) = rw (party-kept p, parties-kept ps) refl
 
-pub kept : (b : Bus) → length (b .parties) ≡ 15 → busOf (rowsOf b) ≡ b
+pub kept : ReadBack
 unfolding busOf rowsOf
 kept b z =
     let written : length (map rowOf (b .parties)) ≡ 15 = length-map (b .parties) rowOf ∙ z in

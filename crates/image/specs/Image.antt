@@ -3,9 +3,10 @@
 -- content is wrong.
 -- Assumes nothing.
 use Prim.Native.Nat.{ℕ}
+use mathlib.Core.Path.{_≡_}
 use mathlib.Core.Bool.{Bool, true, false, cond}
 use mathlib.Core.List.{List, [], _∷_, _++_, map}
-use lib.ListN.{getD, take}
+use lib.ListN.{length, getD, take}
 use lib.Dec.{eqb}
 use Rattle.message.specs.Meaning.{address, secondary}
 use Rattle.party.specs.Parts.{one}
@@ -198,3 +199,7 @@ busWith ps r = record {
 
 unfoldable pub busOf : List (List ℕ) → Bus
 busOf rows = busWith (map partyOf (take 15 rows)) (getD rows 15 [])
+
+-- A bus that was written is read back as it was: any with fifteen places, as every value of the code's `Bus` has.
+abbrev pub ReadBack : Type 0
+ReadBack = (b : Bus) → length (b .parties) ≡ 15 → busOf (rowsOf b) ≡ b

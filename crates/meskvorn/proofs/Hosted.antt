@@ -1,7 +1,8 @@
 -- A bus that is kept as rows between the calls is the machine's bus.
 -- Assumes nothing.
 use Prim.Native.Nat.{ℕ}
-use mathlib.Core.Path.{_≡_, refl, ap, _∙_}
+use mathlib.Core.Path.{_≡_, refl, sym, ap, _∙_}
+use mathlib.Core.Bool.{false}
 use mathlib.Core.List.{List, [], _∷_}
 use lib.ListN.{length}
 use Rattle.bus.specs.declared.Bus.{Bus}
@@ -9,28 +10,44 @@ use Rattle.bus.specs.declared.Answer.{Answer}
 use Rattle.bus.specs.declared.Drivers.{Drivers}
 use Rattle.bus.specs.Record.{buildExtended}
 use Rattle.bus.specs.Drivers.{drivers}
-use Rattle.effect.specs.Calls.{refusalNumber}
+use Rattle.role.proofs.Logic.{test}
+use Rattle.effect.specs.declared.Refusal.{Refusal}
+use Rattle.effect.specs.Calls.{isAccepted, refusalNumber}
 use Rattle.runner.specs.declared.Given.{Given}
 use Rattle.image.specs.Image.{rowsOf, busOf}
 use Rattle.image.proofs.Kept.{kept}
 use Rattle.meskvorn.specs.Packing.{packed}
-use Rattle.meskvorn.specs.Host.{Answered, Gave, maskList, countList, Counted}
+use Rattle.meskvorn.specs.Host.{rowsAfter, Replied, Built, Gave, maskList, countList, Counted}
 use Rattle.meskvorn.specs.Hosted.{answerOf, turnsOf, Asked, call, run, drivers-of-lines, Reply, answer, turns}
 use Rattle.meskvorn.specs.Hosted.{driven, Handed, none, called, ran, asked, Same, Hosted, HostedFromBuild}
 use Rattle.meskvorn.proofs.Sizes.{answer-size, turns-size, drivers-size, build-size}
+use Rattle.meskvorn.proofs.Refused.{answer-leaves, turns-leave}
 
 -- What is said of an answer is said of its equal.
-pub answered : {a e : Answer} {after : List (List ℕ)} {n : ℕ} → a ≡ e → n ≡ packed a → after ≡ rowsOf (a .bus)
-    → Answered e after n
-answered q s r = record { said = s ∙ ap packed q; rows = r ∙ ap (λ (x : Answer). rowsOf (x .bus)) q }
+pub replied : {a e : Answer} {before after : List (List ℕ)} {n : ℕ} → a ≡ e → n ≡ packed a
+    → after ≡ rowsAfter (a .refusal) (a .bus) before → Replied e before after n
+replied {before = before} q s r = record {
+  said = s ∙ ap packed q;
+  rows = r ∙ ap (λ (x : Answer). rowsAfter (x .refusal) (x .bus) before) q;
+}
 
-pub gave : {g e : Given} {after : List (List ℕ)} {counts : List ℕ} {n : ℕ} → g ≡ e → n ≡ refusalNumber (g .refusal)
-    → counts ≡ g .counts → after ≡ rowsOf (g .bus) → Gave e after counts n
-gave q s c r = record {
+pub built : {a e : Answer} {after : List (List ℕ)} {n : ℕ} → a ≡ e → n ≡ packed a → after ≡ rowsOf (a .bus)
+    → Built e after n
+built q s r = record { said = s ∙ ap packed q; rows = r ∙ ap (λ (x : Answer). rowsOf (x .bus)) q }
+
+pub gave : {g e : Given} {before after : List (List ℕ)} {counts : List ℕ} {n : ℕ} → g ≡ e
+    → n ≡ refusalNumber (g .refusal) → counts ≡ g .counts → after ≡ rowsAfter (g .refusal) (g .bus) before
+    → Gave e before after counts n
+gave {before = before} q s c r = record {
   said = s ∙ ap (λ (x : Given). refusalNumber (x .refusal)) q;
   counted = c ∙ ap (λ (x : Given). x .counts) q;
-  rows = r ∙ ap (λ (x : Given). rowsOf (x .bus)) q;
+  rows = r ∙ ap (λ (x : Given). rowsAfter (x .refusal) (x .bus) before) q;
 }
+
+-- rows that are those of a bus are those of the bus after it, also where what was refused leaves them
+rows-next : (r : Refusal) (a b : Bus) (rows : List (List ℕ)) → rows ≡ rowsOf b → (isAccepted r ≡ false → a ≡ b)
+    → rowsAfter r a rows ≡ rowsOf a
+rows-next r a b rows e h = test (isAccepted r) (λ t. rw t refl) (λ t. rw t (e ∙ ap rowsOf (sym (h t))))
 
 pub counted : {d e : Drivers} {after : List (List ℕ)} {masks counts : List ℕ} {n : ℕ} → d ≡ e → n ≡ packed (d .answer)
     → masks ≡ maskList (d .masks) → counts ≡ countList (d .counts) → after ≡ rowsOf (d .answer .bus)
@@ -48,11 +65,11 @@ pub handed : (rows : List (List ℕ)) (xs : List Asked)
 handed rows [] = ([], (rows, none))
 handed rows (call o ∷ xs) =
     let a = answerOf (busOf rows) o in
-    let r = handed (rowsOf (a .bus)) xs in
+    let r = handed (rowsAfter (a .refusal) (a .bus) rows) xs in
     (answer (packed a) ∷ r .0, (r .1 .0, called (record { said = refl; rows = refl }) (r .1 .1)))
 handed rows (run t ∷ xs) =
     let g = turnsOf (busOf rows) t in
-    let r = handed (rowsOf (g .bus)) xs in (
+    let r = handed (rowsAfter (g .refusal) (g .bus) rows) xs in (
       turns (refusalNumber (g .refusal)) (g .counts) ∷ r .0,
       (r .1 .0, ran (record { said = refl; counted = refl; rows = refl }) (r .1 .1)),
     )
@@ -67,14 +84,18 @@ handed rows (drivers-of-lines ∷ xs) =
 go : {rows : List (List ℕ)} {xs : List Asked} {rs : List Reply} {last : List (List ℕ)} → Handed rows xs rs last
     → (b : Bus) → length (b .parties) ≡ 15 → rows ≡ rowsOf b → Same b xs rs last
 go none b z e = record { said = refl; rows = e }
-go (called {o = o} l h) b z e =
+go (called {rows = rows} {o = o} l h) b z e =
     let read : busOf _ ≡ b = ap busOf e ∙ kept b z in
     let r = go h (answerOf b o .bus) (answer-size b (o .op) (o .party) (o .value) (o .extra) z)
-    (l .rows ∙ ap (λ (x : Bus). rowsOf (answerOf x o .bus)) read) in
+    (l .rows ∙ ap (λ (x : Bus). rowsAfter (answerOf x o .refusal) (answerOf x o .bus) rows) read
+    ∙ rows-next (answerOf b o .refusal) (answerOf b o .bus) b rows e
+    (answer-leaves b (o .op) (o .party) (o .value) (o .extra))) in
     record { said = cc (l .said ∙ ap (λ (x : Bus). packed (answerOf x o)) read, r .said); rows = r .rows }
-go (ran {t = t} l h) b z e =
+go (ran {rows = rows} {t = t} l h) b z e =
     let read : busOf _ ≡ b = ap busOf e ∙ kept b z in
-    let r = go h (turnsOf b t .bus) (turns-size b t z) (l .rows ∙ ap (λ (x : Bus). rowsOf (turnsOf x t .bus)) read) in
+    let r = go h (turnsOf b t .bus) (turns-size b t z)
+    (l .rows ∙ ap (λ (x : Bus). rowsAfter (turnsOf x t .refusal) (turnsOf x t .bus) rows) read
+    ∙ rows-next (turnsOf b t .refusal) (turnsOf b t .bus) b rows e (turns-leave b t)) in
     record {
       said = cc (
         l .said ∙ ap (λ (x : Bus). refusalNumber (turnsOf x t .refusal)) read,

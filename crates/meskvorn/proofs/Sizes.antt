@@ -20,14 +20,13 @@ use Rattle.effect.specs.Calls.{isAccepted, placeOf}
 use Rattle.accepted.specs.Accepted.{effectOf}
 use Rattle.bus.specs.declared.Bus.{Bus}
 use Rattle.bus.specs.declared.Answer.{Answer}
-use Rattle.bus.specs.Record.{here, lines, built, noParties, refuse, buildExtended}
+use Rattle.bus.specs.Record.{here, lines, built, noParties, refuse, accept, buildExtended}
 use Rattle.addresses.specs.Addresses.{names, placed, badBuild}
 use Rattle.bus.specs.Settling.{followed}
 use Rattle.bus.specs.Drivers.{drivers}
 use Rattle.bus.specs.Machine.{viewAt, call, refusal, accepted, run}
 use Rattle.runner.specs.Waiting.{byPlace}
-use Rattle.turn_laws.specs.Turns.{steps}
-use Rattle.runner.specs.Runner.{turnsOf, giveTurns}
+use Rattle.runner.specs.Runner.{steps, turnsOf, giveTurns}
 use Rattle.orders.specs.Orders.{orderOf, obey, buildFrom, countUp}
 use Rattle.orders.specs.declared.Order.{Order}
 use Rattle.orders.specs.declared.Order.the-variants as order
@@ -47,7 +46,7 @@ placed-size (suc n) [] = ap suc (placed-size n [])
 placed-size (suc n) (a ∷ xs) = ap suc (placed-size n xs)
 
 pub build-size : (xs : List Name) (s : Place) → Full (buildExtended xs s .bus)
-build-size xs s = either (badBuild xs s) (refuse ruling.BadBuild noParties) (refuse ruling.Accepted (built xs s))
+build-size xs s = either (badBuild xs s) (refuse ruling.BadBuild noParties) (accept (built xs s))
     (placed-size 15 []) (placed-size 15 xs)
 
 followed-size : (x : After) (atn : Bool) (b : Bus) (i : ℕ) (e : Effect) → Full b → Full (followed x atn b i e .bus)

@@ -5,6 +5,7 @@ use mathlib.Core.Path.{_≡_}
 use mathlib.Core.Bool.{cond}
 use mathlib.Core.List.{List, [], _∷_}
 use lib.Dec.{eqb}
+use Rattle.effect.specs.declared.Refusal.{Refusal}
 use Rattle.effect.specs.declared.Refusal.the-variants as ruling
 use Rattle.bus.specs.declared.Bus.{Bus}
 use Rattle.bus.specs.declared.Answer.{Answer}
@@ -15,7 +16,7 @@ use Rattle.bus.specs.Record.{here, refuse}
 use Rattle.image.specs.Image.{rowsOf}
 use Rattle.refusals.specs.Refusals.{isInside}
 use Rattle.orders.specs.Orders.{orderOf, obey}
-use Rattle.effect.specs.Calls.{refusalNumber}
+use Rattle.effect.specs.Calls.{isAccepted, refusalNumber}
 use Rattle.runner.specs.declared.Given.{Given}
 use Rattle.run.specs.declared.Ran.{Ran}
 use Rattle.run.specs.declared.Ran.the-variants.{Wrote, NoRoom}
@@ -36,17 +37,26 @@ RanTo script before after n = (r : Ran) × ((n ≡ countOf r) × RanAs script be
 unfoldable pub answerTo : Bus → ℕ → ℕ → ℕ → ℕ → Answer
 answerTo b op party value extra = cond (eqb op 0) (refuse ruling.BadValue b) (obey b (orderOf op party value extra))
 
--- A host has this answer: the number is the answer's, and the rows are those of the bus after it.
-pub record Answered (a : Answer) (after : List (List ℕ)) (n : ℕ) : Type 0 where
+-- The rows after what was answered with this refusal: those of the bus that it left. What is refused leaves the rows as
+-- they were, byte for byte, whatever they held.
+abbrev pub rowsAfter : Refusal → Bus → List (List ℕ) → List (List ℕ)
+rowsAfter r b before = cond (isAccepted r) (rowsOf b) before
+
+-- A host has this answer to a call: the number is the answer's.
+pub record Replied (a : Answer) (before after : List (List ℕ)) (n : ℕ) : Type 0 where
+  pub said : n ≡ packed a
+  pub rows : after ≡ rowsAfter (a .refusal) (a .bus) before
+
+-- A host has this answer to a build: the rows are those of the bus that was built, or of the bus of no parties.
+pub record Built (a : Answer) (after : List (List ℕ)) (n : ℕ) : Type 0 where
   pub said : n ≡ packed a
   pub rows : after ≡ rowsOf (a .bus)
 
--- A host was given these turns: the number is the refusal's, the counts are those of the places, and the rows are those
--- of the bus after them.
-pub record Gave (g : Given) (after : List (List ℕ)) (counts : List ℕ) (n : ℕ) : Type 0 where
+-- A host was given these turns: the number is the refusal's, and the counts are those of the places.
+pub record Gave (g : Given) (before after : List (List ℕ)) (counts : List ℕ) (n : ℕ) : Type 0 where
   pub said : n ≡ refusalNumber (g .refusal)
   pub counted : counts ≡ g .counts
-  pub rows : after ≡ rowsOf (g .bus)
+  pub rows : after ≡ rowsAfter (g .refusal) (g .bus) before
 
 -- The six lines in document 01's order: ATN, DAV, NRFD, NDAC, EOI, SRQ.
 abbrev pub maskList : Masks → List ℕ

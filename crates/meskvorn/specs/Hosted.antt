@@ -17,7 +17,7 @@ use Rattle.runner.specs.Waiting.{byPlace}
 use Rattle.runner.specs.Runner.{giveTurns}
 use Rattle.image.specs.Image.{rowsOf, busOf}
 use Rattle.meskvorn.specs.Packing.{packed}
-use Rattle.meskvorn.specs.Host.{answerTo, Answered, Gave, maskList, countList, Counted}
+use Rattle.meskvorn.specs.Host.{answerTo, Replied, Built, Gave, maskList, countList, Counted}
 
 -- An operation: the four numbers that meskvorn_call takes.
 pub record Op : Type 0 where
@@ -65,10 +65,10 @@ replies b (drivers-of-lines ∷ xs) = driven (packed (drivers b .answer)) (maskL
 pub data Handed : List (List ℕ) → List Asked → List Reply → List (List ℕ) → Type 0 where
   none : {rows : List (List ℕ)} → Handed rows [] [] rows
   called : {rows next last : List (List ℕ)} {o : Op} {xs : List Asked} {n : ℕ} {rs : List Reply}
-      → Answered (answerOf (busOf rows) o) next n → Handed next xs rs last
+      → Replied (answerOf (busOf rows) o) rows next n → Handed next xs rs last
       → Handed rows (call o ∷ xs) (answer n ∷ rs) last
   ran : {rows next last : List (List ℕ)} {t : ℕ} {xs : List Asked} {n : ℕ} {counts : List ℕ} {rs : List Reply}
-      → Gave (turnsOf (busOf rows) t) next counts n → Handed next xs rs last
+      → Gave (turnsOf (busOf rows) t) rows next counts n → Handed next xs rs last
       → Handed rows (run t ∷ xs) (turns n counts ∷ rs) last
   asked : {rows next last : List (List ℕ)} {xs : List Asked} {n : ℕ} {masks counts : List ℕ} {rs : List Reply}
       → Counted (drivers (busOf rows)) next masks counts n → Handed next xs rs last
@@ -87,6 +87,6 @@ Hosted = (b : Bus) → length (b .parties) ≡ 15 → (xs : List Asked) (rs : Li
 -- So from every build on, with secondaries or without, also from a refused one, whatever the rows held before it.
 abbrev pub HostedFromBuild : Type 0
 HostedFromBuild = (names : List Name) (system : Place) (rows : List (List ℕ)) (n : ℕ)
-    → Answered (buildExtended names system) rows n
+    → Built (buildExtended names system) rows n
     → (xs : List Asked) (rs : List Reply) (last : List (List ℕ)) → Handed rows xs rs last
     → Same (buildExtended names system .bus) xs rs last

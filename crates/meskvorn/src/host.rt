@@ -1,12 +1,13 @@
 // The bus call by call, for a program that keeps it as rows of bytes between the calls.
 ghost use Rattle.image.specs.Image.{busOf};
-ghost use Rattle.meskvorn.specs.Host.{answerTo, Answered};
+ghost use Rattle.meskvorn.specs.Host.{answerTo, Replied};
 use crate::calls::answer_to;
 use crate::packing::packed;
 use image::reading::bus_of;
 use image::writing::rows_of;
 
-// Any operation other than build, on the bus that the rows hold. Every content of the rows is some bus.
+// Any operation other than build, on the bus that the rows hold. Every content of the rows is some bus; a refused call
+// leaves it byte for byte.
 #[no_mangle]
 pub extern "C" fn meskvorn_call(
     bus: &mut [[u8; 24]; 16],
@@ -15,12 +16,20 @@ pub extern "C" fn meskvorn_call(
     value: u8,
     extra: u8,
 ) -> u64
-    ensures { λ r. ⌜ Answered (answerTo (busOf (now (bus .entry))) op party value extra) (now (bus .exit)) r ⌝ }
+    ensures { λ r.
+        ⌜
+        Replied (answerTo (busOf (now (bus .entry))) op party value extra)
+        (now (bus .entry)) (now (bus .exit)) r
+        ⌝ }
 {
     let rows = *bus;
     let before = bus_of(rows);
     let a = answer_to(before, op, party, value, extra);
-    let next = a.bus;
-    *bus = rows_of(next);
+    let refusal = a.refusal;
+    if refusal.is_accepted() {
+        let next = a.bus;
+        *bus = rows_of(next);
+        return packed(a);
+    }
     packed(a)
 }
