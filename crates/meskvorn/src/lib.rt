@@ -20,8 +20,8 @@ fn count_of(r: Ran) -> usize
     }
 }
 
-// Runs a script and writes its text at the start of out, which has 34 bytes for each record and part of one. Gives the
-// number of bytes written.
+// Runs a script and writes its text at the start of out, if that has 34 bytes for each line. Gives the number of bytes
+// written.
 #[no_mangle]
 pub extern "C" fn meskvorn_run(script: &[u8], out: &mut [u8]) -> usize
     ensures { λ r. ⌜ RanTo (now (script .entry)) (now (out .entry)) (now (out .exit)) r ⌝ }

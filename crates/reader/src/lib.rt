@@ -1,9 +1,9 @@
 // The bus script: a reader that keeps the script and its place in it hands out records. A struct with a lent slice
 // inside is not covered by the proofs that come by themselves, so what is written over it is thin and proved by hand:
-// start, read, take and record. The work is in record_at and after.
+// start, take and take_at. The work is in record_at and after_at.
 ghost use mathlib.Core.Path.{_≡_};
-ghost use lib.ListN.{length, getD};
-ghost use Rattle.reader.specs.Record.{recordAt, afterAt};
+ghost use lib.ListN.{length};
+ghost use Rattle.reader.specs.Record.{recordAt, afterAt, takeAt};
 
 pub struct Reader<'a> {
     pub script: &'a [u8],
@@ -21,6 +21,12 @@ pub enum Next {
     // A wrong mark or a short tail.
     Bad,
     End,
+}
+
+// What a reader hands out, and its place after that.
+pub struct Taken {
+    pub next: Next,
+    pub at: usize,
 }
 
 // The work: the record at a place.
@@ -48,31 +54,28 @@ fn record_at(script: &[u8], at: usize) -> Next
     }
 }
 
+// The work: the place after what stands at a place. A record is 6 bytes; what is bad ends the script.
+fn after_at(script: &[u8], at: usize) -> usize
+    ensures { λ r. ⌜ r ≡ afterAt (now (script .entry)) at ⌝ }
+{
+    let next = record_at(script, at);
+    match next {
+        Next::Record {
+            op: _,
+            party: _,
+            value: _,
+            extra: _,
+        } => at + 6,
+        Next::Bad => script.len(),
+        Next::End => script.len(),
+    }
+}
+
 // A reader at a place of a script.
 pub fn start<'a>(script: &'a [u8], at: usize) -> Reader<'a>
     ensures { λ r. ⌜ (r .script ≡ script .entry) × (r .at ≡ at) ⌝ }
 {
     Reader { script, at }
-}
-
-// The record at the reader's place.
-fn read<'a>(r: Reader<'a>) -> Next
-    ensures { λ s. ⌜ s ≡ recordAt (now (r .entry .script)) (r .entry .at) ⌝ }
-{
-    record_at(r.script, r.at)
-}
-
-// The work: the place one record on, at most the end.
-fn after(script: &[u8], at: usize) -> usize
-    ensures { λ r. ⌜ r ≡ afterAt (now (script .entry)) at ⌝ }
-{
-    let n = script.len();
-    if at < n {
-        if 6 <= n - at {
-            return at + 6;
-        }
-    }
-    n
 }
 
 // Hands out the record at the reader's place, and moves the reader on.
@@ -86,13 +89,16 @@ pub fn take<'s, 'a>(r: &'s mut Reader<'a>) -> Next
 {
     let script = r.script;
     let at = r.at;
-    r.at = after(script, at);
+    r.at = after_at(script, at);
     record_at(script, at)
 }
 
-// The record at a place, by way of a reader. Its parameters are plain, so whoever calls it needs no walk.
-pub fn record(script: &[u8], at: usize) -> Next
-    ensures { λ r. ⌜ r ≡ recordAt (now (script .entry)) at ⌝ }
+// What a reader at a place of a script hands out, and its place after that. The parameters are plain, so whoever calls
+// it needs no walk.
+pub fn take_at(script: &[u8], at: usize) -> Taken
+    ensures { λ r. ⌜ r ≡ takeAt (now (script .entry)) at ⌝ }
 {
-    read(start(script, at))
+    let mut r = start(script, at);
+    let next = take(&mut r);
+    Taken { next, at: r.at }
 }

@@ -9,12 +9,12 @@ use lib.ListN.{length, drop, drop-of-length-le}
 use Rattle.bus.specs.declared.Bus.{Bus}
 use Rattle.bus.specs.declared.Answer.{Answer}
 use Rattle.bus.specs.Record.{noParties}
-use Rattle.reader.specs.Record.{recordAt}
+use Rattle.reader.specs.Record.{recordAt, afterAt, records}
+use Rattle.reader.proofs.Records.{turn}
 use Rattle.text.specs.Text.{Wrote, lineOf}
 use Rattle.text.proofs.Laws.{joined, same-size}
 use Rattle.text.proofs.Lengths.{line-length}
-use Rattle.run.specs.Run.{answerTo, records, textFrom}
-use Rattle.run.proofs.Records.{next, turn}
+use Rattle.run.specs.Run.{answerTo, textFrom}
 
 pub record Going (s out₀ out : List ℕ) (b : Bus) (at n place : ℕ) : Type 0 where
   pub done : List ℕ
@@ -41,12 +41,12 @@ module _ {s out₀ out : List ℕ} {b : Bus} {at n place : ℕ} (g : Going s out
   fits h = omega (arith, g .room)
 
   text-turn : at < length s → textFrom b n (records (drop at s)) ≡ lineOf n (answerTo b (recordAt s at)) ++ textFrom
-      (answerTo b (recordAt s at) .bus) (n + 1) (records (drop (next s at) s))
+      (answerTo b (recordAt s at) .bus) (n + 1) (records (drop (afterAt s at) s))
   unfolding textFrom
   text-turn h = ap (textFrom b n) (turn s at h .split)
 
   pub again : {out′ : List ℕ} {b′ : Bus} {at′ place′ : ℕ} (a : Answer) → at < length s → a ≡ answerTo b (recordAt s at)
-      → Wrote out place (lineOf n a) out′ place′ → b′ ≡ a .bus → at′ ≡ next s at
+      → Wrote out place (lineOf n a) out′ place′ → b′ ≡ a .bus → at′ ≡ afterAt s at
       → Going s out₀ out′ b′ at′ (n + 1) place′
   again {out′} {b′} {at′} {place′} a h e w f k =
       let t = turn s at h in

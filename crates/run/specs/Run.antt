@@ -1,10 +1,10 @@
--- A whole script: its records, what each is answered, and the text of the answers (document 01, "The bus script").
+-- A whole script: what each record is answered, and the text of the answers (document 01, "The bus script").
 -- Assumes nothing.
-use Prim.Native.Nat.{ℕ, _+_, _*_, _/_, _<_}
+use Prim.Native.Nat.{ℕ, _+_, _*_, _/_, _<_, _≤_}
 use mathlib.Core.Path.{_≡_}
-use mathlib.Core.Bool.{cond, _&&_}
+use mathlib.Core.Bool.{cond}
 use mathlib.Core.List.{List, [], _∷_, _++_}
-use lib.Dec.{ltb, eqb}
+use lib.Dec.{ltb}
 use lib.ListN.{length, drop}
 use Rattle.effect.specs.declared.Refusal.the-variants as ruling
 use Rattle.bus.specs.declared.Bus.{Bus}
@@ -12,6 +12,7 @@ use Rattle.bus.specs.declared.Answer.{Answer}
 use Rattle.bus.specs.Record.{refuse, noParties}
 use Rattle.reader.specs.declared.Next.{Next}
 use Rattle.reader.specs.declared.Next.the-variants.{Record, Bad, End}
+use Rattle.reader.specs.Record.{records}
 use Rattle.text.specs.Text.{lineOf}
 use Rattle.orders.specs.Orders.{orderOf, obey}
 use Rattle.run.specs.declared.Ran.{Ran}
@@ -23,24 +24,6 @@ answerTo b (Record op party value extra) = obey b (orderOf op party value extra)
 answerTo b Bad = refuse ruling.Record b
 answerTo b End = refuse ruling.Record b
 
--- The place after a record in a script of len bytes: what is bad ".. ends the run".
-abbrev pub afterOf : Next → ℕ → ℕ → ℕ
-afterOf (Record op party value extra) at len = at + 6
-afterOf Bad at len = len
-afterOf End at len = len
-
--- The records of a script: "A record is 6 bytes: mark 47 42 (hexadecimal), operation, party, value, extra." What is
--- none is the last.
-unfoldable pub records : List ℕ → List Next
-records [] = []
-records (a ∷ []) = Bad ∷ []
-records (a ∷ b ∷ []) = Bad ∷ []
-records (a ∷ b ∷ c ∷ []) = Bad ∷ []
-records (a ∷ b ∷ c ∷ d ∷ []) = Bad ∷ []
-records (a ∷ b ∷ c ∷ d ∷ e ∷ []) = Bad ∷ []
-records (a ∷ b ∷ op ∷ party ∷ value ∷ extra ∷ rest) =
-    cond (eqb a 0x47 && eqb b 0x42) (Record op party value extra ∷ records rest) (Bad ∷ [])
-
 -- A line for each record, numbered from n, on the bus that the one before it left.
 unfoldable pub textFrom : Bus → ℕ → List Next → List ℕ
 textFrom b n [] = []
@@ -51,8 +34,16 @@ textFrom b n (r ∷ rs) = lineOf n (answerTo b r) ++ textFrom (answerTo b r .bus
 unfoldable pub textOf : List ℕ → List ℕ
 textOf s = cond (ltb 65532 (length s)) (lineOf 0 (refuse ruling.Record noParties)) (textFrom noParties 1 (records s))
 
--- The n bytes of the text stand at the start of the buffer and the rest is unchanged; or the buffer has less than 34
--- bytes for each record, and is unchanged.
+-- The most lines that a text can have: 1 if the script is over length, else one for each record and part of one.
+unfoldable pub linesOf : List ℕ → ℕ
+linesOf s = cond (ltb 65532 (length s)) 1 ((length s + 5) / 6)
+
+-- The n bytes of the text stand at the start of the buffer, and the rest is unchanged.
+abbrev pub Printed : List ℕ → List ℕ → List ℕ → ℕ → Type 0
+Printed s before after n = (n ≡ length (textOf s)) × (after ≡ textOf s ++ drop n before)
+
+-- Where the buffer has 34 bytes for each line the text is printed into it; where it has less there is no room, and it
+-- is unchanged.
 abbrev pub RanAs : List ℕ → List ℕ → List ℕ → Ran → Type 0
-RanAs s before after (ran.Wrote n) = (n ≡ length (textOf s)) × (after ≡ textOf s ++ drop n before)
-RanAs s before after ran.NoRoom = (after ≡ before) × (length before < 34 * ((length s + 5) / 6))
+RanAs s before after (ran.Wrote n) = (34 * linesOf s ≤ length before) × Printed s before after n
+RanAs s before after ran.NoRoom = (length before < 34 * linesOf s) × (after ≡ before)

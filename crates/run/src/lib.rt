@@ -1,10 +1,11 @@
 // A whole script: each record on the bus, and the text of the answers.
 ghost use mathlib.Core.Path.{_≡_};
-ghost use Prim.Native.Nat.{_+_, _*_, _/_, _<_, _≤_, _^_};
+ghost use Prim.Native.Nat.{_+_, _*_, _/_, _≤_};
 ghost use lib.ListN.{length};
 ghost use Rattle.bus.specs.Record.{noParties};
+ghost use Rattle.reader.specs.Record.{records};
 ghost use Rattle.text.specs.Text.{Wrote};
-ghost use Rattle.run.specs.Run.{answerTo, afterOf, records, textFrom, RanAs};
+ghost use Rattle.run.specs.Run.{answerTo, textFrom, textOf, linesOf, Printed, RanAs};
 use bus::Answer;
 use bus::Bus;
 use effect::Refusal;
@@ -12,6 +13,12 @@ use orders::obey;
 use orders::order_of;
 use party::Place;
 use reader::Next;
+
+// The most bytes that a script may have.
+const LONGEST: usize = 65532;
+
+// 34 bytes for each line that a script can have.
+pub const ROOM: usize = 371348;
 
 fn answer_to(b: Bus, next: Next) -> Answer
     ensures { λ r. ⌜ r ≡ answerTo b next ⌝ }
@@ -25,23 +32,6 @@ fn answer_to(b: Bus, next: Next) -> Answer
         } => obey(b, order_of(op, party, value, extra)),
         Next::Bad => b.refuse(Refusal::Record),
         Next::End => b.refuse(Refusal::Record),
-    }
-}
-
-// The place after a record; what is bad ends the script.
-fn after_of(next: Next, at: usize, len: usize) -> usize
-    requires { ⌜ at + 6 < 2 ^ 64 ⌝ }
-    ensures { λ r. ⌜ r ≡ afterOf next at len ⌝ }
-{
-    match next {
-        Next::Record {
-            op: _,
-            party: _,
-            value: _,
-            extra: _,
-        } => at + 6,
-        Next::Bad => len,
-        Next::End => len,
     }
 }
 
@@ -61,14 +51,37 @@ fn run_all(script: &[u8], out: &mut [u8]) -> usize
     let mut n = 1;
     let mut place = 0;
     while at < script.len() {
-        let next = reader::record(script, at);
+        let taken = reader::take_at(script, at);
+        let next = taken.next;
         let a = answer_to(bus, next);
         place = text::put_line(n, a, out, place);
         bus = a.bus;
-        at = after_of(next, at, script.len());
+        at = taken.at;
         n += 1;
     }
     place
+}
+
+// The most lines that a script can have.
+fn lines_of(script: &[u8]) -> usize
+    ensures { λ r. ⌜ r ≡ linesOf (now (script .entry)) ⌝ }
+{
+    if LONGEST < script.len() {
+        return 1;
+    }
+    (script.len() + 5) / 6
+}
+
+// The text of a script, at the start of out.
+fn put_text(script: &[u8], out: &mut [u8]) -> usize
+    requires { ⌜ 34 * linesOf (now script) ≤ length (now out) ⌝ }
+    ensures { λ r. ⌜ Wrote (now (out .entry)) 0 (textOf (now (script .entry))) (now (out .exit)) r ⌝ }
+{
+    if LONGEST < script.len() {
+        let a = Bus::EMPTY.refuse(Refusal::Record);
+        return text::put_line(0, a, out, 0);
+    }
+    run_all(script, out)
 }
 
 pub enum Ran {
@@ -78,19 +91,19 @@ pub enum Ran {
 }
 
 // Runs a script and writes its text at the start of out. A line has at most 34 bytes: where out has less than that for
-// each record, nothing is written.
+// each line, and only there, it answers NoRoom and writes nothing.
 pub fn run(script: &[u8], out: &mut [u8]) -> Ran
     ensures { λ r. ⌜ RanAs (now (script .entry)) (now (out .entry)) (now (out .exit)) r ⌝ }
 {
-    if 65532 < script.len() {
-        if out.len() < 34 {
-            return Ran::NoRoom;
-        }
-        let a = Bus::EMPTY.refuse(Refusal::Record);
-        return Ran::Wrote(text::put_line(0, a, out, 0));
-    }
-    if out.len() / 34 < (script.len() + 5) / 6 {
+    if out.len() / 34 < lines_of(script) {
         return Ran::NoRoom;
     }
-    Ran::Wrote(run_all(script, out))
+    Ran::Wrote(put_text(script, out))
+}
+
+// The same where out has room for the text of any script: 34 bytes for each of 10,922 lines.
+pub fn run_whole(script: &[u8], out: &mut [u8; ROOM]) -> usize
+    ensures { λ r. ⌜ Printed (now (script .entry)) (now (out .entry)) (now (out .exit)) r ⌝ }
+{
+    put_text(script, out)
 }

@@ -4,11 +4,11 @@ use mathlib.Core.Path.{_≡_, refl, ap, _∙_}
 use Prim.Native.Nat.{_-_}
 use native.Mathlib.Omega.{arith}
 use lib.ListN.{length}
-use Rattle.reader.specs.declared.Next.{Next}
+use Rattle.reader.specs.declared.Taken.{Taken}
 use Rattle.text.proofs.Laws.{same-size}
 use Rattle.bus.specs.declared.Answer.{Answer}
-use Rattle.run.specs.Run.{answerTo, afterOf}
-use Rattle.run.proofs.Records.{next, turn}
+use Rattle.reader.proofs.Records.{turn}
+use Rattle.run.specs.Run.{answerTo}
 use Rattle.run.proofs.Going.{Going, start, fits, again, ends}
 use borrow.Author.Needs.{needs}
 
@@ -30,8 +30,8 @@ loop-holds c =
     start (b .args .script .now) (b .args .out .now) (c .before .build .result .bus)
     (ap (λ (a : Answer). a .bus) (c .before .build .ensures)) (b .pre)
 
-record-requires : tie.Need-record-requires Inv-loop μ-loop
-record-requires c κs = search needs
+take-at-requires : tie.Need-take-at-requires Inv-loop μ-loop
+take-at-requires c κs = search needs
 
 answer-to-requires : tie.Need-answer-to-requires Inv-loop μ-loop
 answer-to-requires c κs = search needs
@@ -39,32 +39,27 @@ answer-to-requires c κs = search needs
 put-line-requires : tie.Need-put-line-requires Inv-loop μ-loop
 put-line-requires c κs = search needs
 
-after-of-requires : tie.Need-after-of-requires Inv-loop μ-loop
-after-of-requires c κs = omega arith
-
 add-n : tie.Need-add-n Inv-loop μ-loop
 add-n c = search needs
 
 loop-less : tie.Need-loop-less Inv-loop μ-loop
 loop-less c =
-    let a = c .before .before .before .before .before .before in
-    let l = a .before .before .before in
-    let s = l .before .before .before .before .before .before .args .script .now in
-    let e : c .after-of .result ≡ next s (l .loop .at) = c .after-of .ensures
-    ∙ ap (λ (r : Next). afterOf r (l .loop .at) (length s)) (a .before .«record» .ensures) in
-    let t = turn s (l .loop .at) (a .before .before .loop-test .taken) in
-    omega (arith, t .further, t .within, e)
+    let k = c .before .before .before .before .before .before in
+    let l = k .before .before in
+    let t = turn (l .before .before .before .before .before .before .args .script .now) (l .loop .at)
+    (k .before .loop-test .taken) in
+    omega (arith, t .further, t .within, ap (λ (x : Taken). x .at) (k .take-at .ensures))
 
 loop-again : tie.Need-loop-again Inv-loop μ-loop
 loop-again c =
-    let p = c .before .before .before .before in
+    let p = c .before .before .before in
     let a = p .before .before in
-    let l = a .before .before .before in
-    let s = l .before .before .before .before .before .before .args .script .now in
-    again (l .loop .inv) (a .answer-to .result) (a .before .before .loop-test .taken)
-    (a .answer-to .ensures ∙ ap (answerTo (l .loop .bus)) (a .before .«record» .ensures))
-    (p .put-line .ensures .written (fits (l .loop .inv) (a .before .before .loop-test .taken))) refl
-    (c .after-of .ensures ∙ ap (λ (r : Next). afterOf r (l .loop .at) (length s)) (a .before .«record» .ensures))
+    let k = a .before in
+    let l = k .before .before in
+    again (l .loop .inv) (a .answer-to .result) (k .before .loop-test .taken)
+    (a .answer-to .ensures ∙ ap (λ (x : Taken). answerTo (l .loop .bus) (x .next)) (k .take-at .ensures))
+    (p .put-line .ensures .written (fits (l .loop .inv) (k .before .loop-test .taken))) refl
+    (ap (λ (x : Taken). x .at) (k .take-at .ensures))
 
 same-length : tie.Need-same-length Inv-loop μ-loop
 same-length c = same-size (c .before .loop .inv .wrote)
@@ -81,10 +76,9 @@ run-all-spec =
     slice-aggregate-build
     build-requires
     loop-holds
-    record-requires
+    take-at-requires
     answer-to-requires
     put-line-requires
-    after-of-requires
     add-n
     loop-less
     loop-again

@@ -11,10 +11,9 @@ use lib.Dec.{ltb, eqb}
 use lib.ListN.{length, drop, getD, length-drop}
 use lib.Seq.{drop-cons, drop-length}
 use borrow.Author.Tests.{ltb-true, ltb-false, lt-ltb}
 use Rattle.reader.specs.declared.Next.{Next}
 use Rattle.reader.specs.declared.Next.the-variants.{Record, Bad}
-use Rattle.reader.specs.Record.{recordAt}
-use Rattle.run.specs.Run.{afterOf, records}
+use Rattle.reader.specs.Record.{recordAt, afterOf, afterAt, records}
 
 -- fewer than 6 bytes are one bad record
 short : (l : List ℕ) → 0 < length l → length l < 6 → records l ≡ Bad ∷ []
@@ -45,9 +44,23 @@ six s at h =
           at 5 (omega arith),
     )
 
--- the place after the record at a place
-abbrev pub next : List ℕ → ℕ → ℕ
-next s at = afterOf (recordAt s at) at (length s)
+no : {A : Type 0} → _≡_ {A = ℕ} 0 1 → A
+no e = absurd (omega arith)
+
+by-length : (s : List ℕ) (at op party value extra : ℕ) (p q : Bool) → ltb at (length s) ≡ p
+    → ltb (length s - at) 6 ≡ q → recordAt s at ≡ Record op party value extra → at + 6 ≤ length s
+unfolding recordAt
+by-length s at op party value extra false q f g e = no (cc)
+by-length s at op party value extra true true f g e = no (cc)
+by-length s at op party value extra true false f g e =
+    let h : at < length s = ltb-true _ _ f in
+    let k : 6 ≤ length s - at = ltb-false _ _ g in
+    omega arith
+
+-- a record is 6 bytes, and they are all there
+pub all-there : (s : List ℕ) (at op party value extra : ℕ) → recordAt s at ≡ Record op party value extra
+    → at + 6 ≤ length s
+all-there s at op party value extra e = by-length s at op party value extra _ _ refl refl e
 
 -- the records from a place on, of which the first ends at another
 pub record Turn (s : List ℕ) (at to : ℕ) : Type 0 where
@@ -57,21 +70,22 @@ pub record Turn (s : List ℕ) (at to : ℕ) : Type 0 where
   pub fewer : (length s - to + 5) / 6 + 1 ≤ (length s - at + 5) / 6
 
 bad : (s : List ℕ) (at : ℕ) → at < length s → records (drop at s) ≡ Bad ∷ [] → recordAt s at ≡ Bad
-    → Turn s at (next s at)
-unfolding records
+    → Turn s at (afterAt s at)
+unfolding records afterAt
 bad s at h e f =
     subst (λ (to : ℕ). Turn s at to) (sym (ap (λ (r : Next). afterOf r at (length s)) f))
     (record { split = e ∙ rw (f, drop-length); further = h; within = omega arith; fewer = omega arith })
 
 good : (s : List ℕ) (at op party value extra : ℕ) → at + 6 ≤ length s
     → records (drop at s) ≡ Record op party value extra ∷ records (drop (at + 6) s)
-    → recordAt s at ≡ Record op party value extra → Turn s at (next s at)
+    → recordAt s at ≡ Record op party value extra → Turn s at (afterAt s at)
+unfolding afterAt
 good s at op party value extra h e f =
     subst (λ (to : ℕ). Turn s at to) (sym (ap (λ (r : Next). afterOf r at (length s)) f))
     (record { split = e ∙ rw f; further = omega arith; within = h; fewer = omega arith })
 
 by-cases : (s : List ℕ) (at : ℕ) → at < length s → (p q r : Bool) → ltb (length s - at) 6 ≡ p
-    → eqb (getD s at 0) 0x47 ≡ q → eqb (getD s (at + 1) 0) 0x42 ≡ r → Turn s at (next s at)
+    → eqb (getD s at 0) 0x47 ≡ q → eqb (getD s (at + 1) 0) 0x42 ≡ r → Turn s at (afterAt s at)
 unfolding recordAt records
 by-cases s at h true q r e f g =
     let k : length s - at < 6 = ltb-true _ _ e in
@@ -87,5 +101,5 @@ by-cases s at h false false r e f g =
     let k : 6 ≤ length s - at = ltb-false _ _ e in
     bad s at h (ap records (six s at (omega arith)) ∙ simp f) (simp (lt-ltb _ _ h, e, f))
 
-pub turn : (s : List ℕ) (at : ℕ) → at < length s → Turn s at (next s at)
+pub turn : (s : List ℕ) (at : ℕ) → at < length s → Turn s at (afterAt s at)
 turn s at h = by-cases s at h _ _ _ refl refl refl
