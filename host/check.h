@@ -100,8 +100,19 @@ static inline void give_turns(uint16_t turns)
     last = *bus;
 }
 
+/* Fills the bus with bytes that a generator mixes, so that parties differ; of each the bits of the mask are kept. */
+static inline void mix(uint16_t *state, uint8_t mask)
+{
+    uint8_t *bytes = (uint8_t *)bus;
+    size_t at;
+    for (at = 0; at < sizeof *bus; at++) {
+        *state = (uint16_t)(25173u * *state + 13849u);
+        bytes[at] = (uint8_t)(*state >> 8 & mask);
+    }
+}
+
 /* Parties at addresses 5, 6, ..; party 0 is the system party. */
-static void build(size_t parties)
+static inline void build(size_t parties)
 {
     EXPECT(NONE, meskvorn_bus_build(bus, addresses, parties, 0));
 }

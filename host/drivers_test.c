@@ -270,20 +270,52 @@ static void no_parties_and_no_operation(void)
     EXPECT_DRIVERS(0, 1, 0, 2, 1, 0);
 }
 
-static void null_pointers(void)
+/* Fills the stack below its caller, where what is called next has its locals. */
+static void fill_stack(void)
 {
-    meskvorn_drivers_answer drivers = meskvorn_bus_drivers(NULL);
+    volatile uint8_t below[4096];
+    size_t at;
+    for (at = 0; at < sizeof below; at++) {
+        below[at] = FILL;
+    }
+    CHECK(below[0] == FILL);
+}
+
+/* Its own locals, and those of the function that it calls, lie where the stack was filled. */
+static void nobody_on_a_null_bus(void)
+{
+    meskvorn_drivers_answer (*volatile drivers_of)(meskvorn_bus *) = meskvorn_bus_drivers;
+    meskvorn_drivers_answer drivers = drivers_of(NULL);
     int index;
-    EXPECT(REFUSED(10), drivers.answer);
     for (index = 0; index < MESKVORN_LINES; index++) {
         CHECK(drivers.masks[index] == 0 && drivers.counts[index] == 0);
-        CHECK(meskvorn_is_driven_by(NULL, (meskvorn_line)index, 0) == 0);
     }
-    stand(2, 1);
-    drivers = meskvorn_bus_drivers(bus);
-    CHECK(meskvorn_is_driven_by(&drivers, MESKVORN_DRIVERS_OF_EOI, 0) == 1);
-    CHECK(meskvorn_is_driven_by(&drivers, (meskvorn_line)6, 0) == 0);
-    CHECK(meskvorn_is_driven_by(&drivers, (meskvorn_line)7, 0) == 0);
+    EXPECT(REFUSED(10), drivers.answer);
+}
+
+/* Through pointers that the compiler can't see through, so that neither is inlined. */
+static void null_bus(void)
+{
+    void (*volatile first)(void) = fill_stack;
+    void (*volatile second)(void) = nobody_on_a_null_bus;
+    first();
+    second();
+}
+
+/* Where every bit is on, each of fifteen parties drives each of six lines, and nobody anything else. */
+static void no_seventh_line(void)
+{
+    meskvorn_drivers_answer all;
+    volatile int line;
+    int party;
+    memset(&all, 0xff, sizeof all);
+    for (line = 0; line < 8; line++) {
+        for (party = 0; party < 256; party++) {
+            int drives = line < MESKVORN_LINES && party < MESKVORN_MOST_PARTIES;
+            CHECK(meskvorn_is_driven_by(&all, (meskvorn_line)line, (uint8_t)party) == drives);
+        }
+        CHECK(meskvorn_is_driven_by(NULL, (meskvorn_line)line, 0) == 0);
+    }
 }
 
 /* Whatever the memory held, the drivers are those of the bus as it is found, and so are the lines. A standing byte's
@@ -303,7 +335,7 @@ static void expect_any_bus(void)
     }
 }
 
-/* All bytes alike, then bytes below eight that a generator mixes, so that parties differ. */
+/* All bytes alike, then bytes below eight. */
 static void any_content(void)
 {
     uint16_t state = 488;
@@ -313,12 +345,7 @@ static void any_content(void)
         expect_any_bus();
     }
     for (round = 0; round < 2000; round++) {
-        uint8_t *bytes = (uint8_t *)bus;
-        size_t at;
-        for (at = 0; at < sizeof *bus; at++) {
-            state = (uint16_t)(25173u * state + 13849u);
-            bytes[at] = (uint8_t)(state >> 8 & 7);
-        }
+        mix(&state, 7);
         expect_any_bus();
     }
 }
@@ -334,7 +361,8 @@ int main(void)
     requests_and_control();
     every_party_has_its_bit();
     no_parties_and_no_operation();
-    null_pointers();
+    null_bus();
+    no_seventh_line();
     any_content();
     return report("host/drivers_test.c");
 }

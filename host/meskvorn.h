@@ -108,7 +108,8 @@ enum { MESKVORN_NO_SECONDARY = 255 };
 /* What meskvorn_run gives where the text had no room. */
 #define MESKVORN_NO_ROOM ((size_t)-1)
 
-/* Of an answer: end and broken are 0 or 1, dropped is 0 to 2. A refusal has event none and 0 in all that follows. */
+/* Of an answer: on every bus that a build and calls have made, end and broken are 0 or 1, and dropped is 0 to 2. On
+ * memory with any other content dropped may be more. A refusal has event none and 0 in all that follows. */
 typedef struct meskvorn_answer {
     meskvorn_refusal refusal;
     meskvorn_event event;
@@ -137,13 +138,13 @@ typedef struct meskvorn_drivers_answer {
 /* The proved functions. No pointer may be NULL. The first three take the rows of a bus and give the answer as a number:
  * from the low byte up refusal, event, byte, END, dropped, broken. An operation that is none of the thirteen is refused
  * with 3. Whatever the rows held, a build leaves the bus that it asks for, or the bus of no parties where it is
- * refused. */
+ * refused; any other function that refuses leaves every byte of them as it was. */
 uint64_t meskvorn_call(uint8_t (*rows)[MESKVORN_ROW], uint8_t operation, uint8_t party, uint8_t value, uint8_t extra);
 uint64_t meskvorn_build(uint8_t (*rows)[MESKVORN_ROW], const uint8_t *addresses, size_t count, uint8_t system);
 
-/* A build in which the party with number i has the address addresses[i] and the secondary address secondaries[i]. It
- * has none if that is MESKVORN_NO_SECONDARY or if fewer secondaries are given; those past the last address are
- * ignored. */
+/* A build in which the party with number i has the address addresses[i] and the secondary address secondaries[i], or
+ * none if that is MESKVORN_NO_SECONDARY. given is count, or 0, and then nobody has one. A build with fewer or more
+ * secondaries than addresses is refused with 2. */
 uint64_t meskvorn_build_extended(uint8_t (*rows)[MESKVORN_ROW], const uint8_t *addresses, size_t count,
                                  const uint8_t *secondaries, size_t given, uint8_t system);
 
@@ -161,8 +162,9 @@ uint8_t meskvorn_turns(uint8_t (*rows)[MESKVORN_ROW], uint16_t turns, uint16_t *
  * with the event none. No operation of meskvorn_call stands for it. */
 uint64_t meskvorn_drivers(uint8_t (*rows)[MESKVORN_ROW], uint16_t *masks, uint32_t *counts);
 
-/* Runs a script and writes its text at the start of out, if out has 34 bytes for each record and part of one. Gives the
- * number of bytes written. */
+/* Runs a script, writes its text at the start of out, and gives the number of bytes written. The room has to be 34
+ * bytes for each record and part of one, or 34 bytes in all for a script of over 65,532 bytes, whose text is one line.
+ * With less it gives MESKVORN_NO_ROOM and writes nothing. */
 size_t meskvorn_run(const uint8_t *script, size_t length, uint8_t *out, size_t room);
 
 static inline meskvorn_answer meskvorn_answer_of(uint64_t packed)
@@ -185,8 +187,8 @@ static inline const char *meskvorn_event_word(meskvorn_event event)
     return (size_t)event < sizeof words / sizeof words[0] ? words[event] : "";
 }
 
-/* From here on a NULL bus, and NULL for a list that is not empty, is answered with MESKVORN_REFUSAL_RECORD, and nothing
- * is written. */
+/* From here on NULL for a bus, or for a list that is not empty, is refused with MESKVORN_REFUSAL_RECORD by all that
+ * answer a refusal, and nothing is written. */
 
 /* The party with number i gets addresses[i]. */
 static inline meskvorn_answer meskvorn_bus_build(meskvorn_bus *bus, const uint8_t *addresses, size_t count,
@@ -200,7 +202,7 @@ static inline meskvorn_answer meskvorn_bus_build(meskvorn_bus *bus, const uint8_
 }
 
 /* The party with number i gets addresses[i] and secondaries[i], or no secondary address if that is
- * MESKVORN_NO_SECONDARY. NULL for the secondaries gives none to anybody. */
+ * MESKVORN_NO_SECONDARY. NULL for the secondaries is an empty list, and gives none to anybody. */
 static inline meskvorn_answer meskvorn_bus_build_extended(meskvorn_bus *bus, const uint8_t *addresses,
                                                           const uint8_t *secondaries, size_t count, uint8_t system)
 {

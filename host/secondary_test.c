@@ -274,18 +274,42 @@ static void names(void)
     EXPECT_NO_NAME(0);
 }
 
-/* Fewer secondaries than addresses, and more. */
-static void lists_of_two_lengths(void)
+static void expect_given_at(int line, const char *wanted, const uint8_t *own, size_t count, size_t given)
 {
-    static const uint8_t three[3] = {2, 2, 3}, second[4] = {12, 13, 200, 31};
-    EXPECT(NONE, meskvorn_answer_of(meskvorn_build_extended(bus->rows, three, 3, second, 2, 0)));
-    EXPECT_NAME(1, 2, 13);
-    EXPECT_NAME(2, 3, PLAIN);
-    EXPECT(NONE, meskvorn_answer_of(meskvorn_build_extended(bus->rows, three, 2, second, 4, 1)));
-    EXPECT_NAME(1, 2, 13);
-    EXPECT_NO_NAME(2);
-    EXPECT(REFUSED(2), meskvorn_answer_of(meskvorn_build_extended(bus->rows, three, 3, second, 1, 0)));
-    EXPECT(REFUSED(2), meskvorn_answer_of(meskvorn_build_extended(bus->rows, three, 3, second, 3, 0)));
+    static const uint8_t apart[16] = {9, 3, 12, 0, 30, 1, 2, 4, 5, 6, 7, 8, 10, 11, 13, 14};
+    memset(bus, FILL, sizeof *bus);
+    expect_at(line, wanted, meskvorn_answer_of(meskvorn_build_extended(bus->rows, apart, count, own, given, 0)));
+    check_at(line, (strcmp(wanted, NONE) == 0) != (memcmp(bus, &no_parties, sizeof *bus) == 0),
+             "a refused build leaves no parties");
+}
+
+/* So many addresses, all different, with so many secondaries. */
+#define EXPECT_GIVEN(wanted, own, count, given) expect_given_at(__LINE__, (wanted), (own), (count), (given))
+
+/* As many secondaries as addresses, or none at all. */
+static void numbers_of_secondaries(void)
+{
+    static const uint8_t some[18] = {12, 13, PLAIN, 30, 0, 12, 13, PLAIN, 30, 0, 12, 13, PLAIN, 30, 0, 1, 2, 3};
+    static const uint8_t none[18] = {255, 255, 255, 255, 255, 255, 255, 255, 255,
+                                     255, 255, 255, 255, 255, 255, 255, 255, 255};
+    size_t count, given;
+    for (count = 1; count <= MESKVORN_MOST_PARTIES; count++) {
+        for (given = 0; given <= 18; given++) {
+            const char *wanted = given == 0 || given == count ? NONE : REFUSED(2);
+            EXPECT_GIVEN(wanted, some, count, given);
+            EXPECT_GIVEN(wanted, none, count, given);
+        }
+    }
+    EXPECT_GIVEN(NONE, some, 3, 3);
+    EXPECT_NAME(1, 3, 13);
+    EXPECT_NAME(2, 12, PLAIN);
+    EXPECT_GIVEN(NONE, some, 3, 0);
+    EXPECT_NAME(1, 3, PLAIN);
+    EXPECT_GIVEN(REFUSED(2), some, 0, 0);
+    EXPECT_GIVEN(REFUSED(2), some, 0, 1);
+    EXPECT_GIVEN(REFUSED(2), some, 16, 16);
+    EXPECT_GIVEN(REFUSED(2), some, 16, 0);
+    EXPECT_NO_NAME(0);
 }
 
 /* Without secondaries both builds are one, whatever the memory held. */
@@ -330,7 +354,7 @@ int main(void)
     every_secondary();
     numbers_of_parties();
     names();
-    lists_of_two_lengths();
+    numbers_of_secondaries();
     builds_without_secondaries();
     null_pointers();
     return report("host/secondary_test.c");

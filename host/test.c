@@ -1,5 +1,5 @@
 /* The archive through meskvorn.h: document 01's examples P1 to P12 call by call, every operation and refusal, NULL, and
- * buffers with no room.
+ * memory of any content.
  * What is expected is worked out from document 01, and written as busrun prints it: refusal, event, byte, END, dropped,
  * broken. */
 #include "check.h"
@@ -252,60 +252,56 @@ static void null_pointers(void)
     EXPECT(REFUSED(10), meskvorn_bus_lines(NULL));
 }
 
-static const uint8_t worked[] = {
-    0x47, 0x42, 0, 0, 2, 5, 0x47, 0x42, 6, 0, 1, 0, 0x47, 0x42, 5, 1, 1, 0, 0x47, 0x42, 2, 0, 0x41, 1,
-    0x47, 0x42, 1, 0, 0, 0, 0x47, 0x42, 1, 1, 0, 0, 0x47, 0x42, 1, 0, 0, 0, 0x47, 0x42, 1, 1, 0, 0,
-    0x47, 0x42, 1, 0, 0, 0, 0x47, 0x42, 1, 1, 0, 0, 0x47, 0x42, 1, 0, 0, 0, 0x47, 0x42, 3, 1, 0, 0,
-};
-
-static const char worked_text[] = "1 0 none -- 0 0 0\n2 0 none -- 0 0 0\n3 0 none -- 0 0 0\n4 0 none -- 0 0 0\n"
-                                  "5 0 moved -- 0 0 0\n6 0 moved -- 0 0 0\n7 0 data 41 1 0 0\n8 0 took 41 1 0 0\n"
-                                  "9 0 none -- 0 0 0\n10 0 moved -- 0 0 0\n11 0 ended 41 1 0 0\n12 0 read 41 1 0 0\n";
-
-enum { ROOM = 12 * 34 };
-
-/* Document 01's script; the text is written where there is room, and nothing else. */
-static void scripts(void)
+/* A call on whatever the memory holds: it keeps to it, answers in document 01's range, and changes no byte if it is
+ * refused. 1 if it was. */
+static int refused_on_any_content(uint8_t operation, uint8_t party, uint8_t value)
 {
-    uint8_t around[GUARD + ROOM + GUARD];
-    uint8_t *const out = around + GUARD;
-    const size_t length = sizeof worked_text - 1;
-    memset(around, FILL, sizeof around);
-    CHECK(meskvorn_script_run(worked, sizeof worked, out, ROOM - 1) == MESKVORN_NO_ROOM);
-    CHECK(meskvorn_script_run(worked, sizeof worked, NULL, 0) == MESKVORN_NO_ROOM);
-    CHECK(meskvorn_script_run(worked, sizeof worked, NULL, ROOM) == MESKVORN_NO_ROOM);
-    CHECK(meskvorn_script_run(NULL, sizeof worked, out, ROOM) == MESKVORN_NO_ROOM);
-    CHECK(meskvorn_script_run(NULL, 0, out, ROOM) == 0);
-    CHECK(meskvorn_script_run(NULL, 0, NULL, 0) == 0);
-    CHECK(filled(around, sizeof around));
-    CHECK(meskvorn_script_run(worked, sizeof worked, out, ROOM) == length);
-    CHECK(memcmp(out, worked_text, length) == 0);
-    CHECK(filled(around, GUARD));
-    CHECK(filled(out + length, ROOM - length + GUARD));
+    const meskvorn_bus before = *bus;
+    uint64_t packed = meskvorn_call(bus->rows, operation, party, value, value);
+    meskvorn_answer answer = meskvorn_answer_of(packed);
+    int refused = answer.refusal != MESKVORN_REFUSAL_ACCEPTED;
+    CHECK(answer.refusal < MESKVORN_REFUSAL_RECORD && answer.event <= MESKVORN_EVENT_LINES && packed >> 48 == 0);
+    CHECK(answer.end <= 1 && answer.broken <= 1);
+    CHECK(filled(memory.before, GUARD) && filled(memory.after, GUARD));
+    CHECK(!refused || memcmp(bus, &before, sizeof before) == 0);
+    return refused;
 }
 
-/* Whatever the memory held, a call keeps to it and answers in document 01's range, and a build is as any other. */
-static void any_content(void)
+/* All bytes alike; a build is then as any other. */
+static void one_content_throughout(void)
 {
     static meskvorn_bus no_parties;
     int content;
     for (content = 0; content < 256; content++) {
         uint8_t operation;
         for (operation = MESKVORN_OPERATION_STEP; operation <= MESKVORN_OPERATION_SECOND_REQUEST; operation++) {
-            uint64_t packed;
-            meskvorn_answer answer;
             memset(bus, content, sizeof *bus);
-            packed = meskvorn_call(bus->rows, operation, (uint8_t)(content % 16), 1, 1);
-            answer = meskvorn_answer_of(packed);
-            CHECK(answer.refusal < MESKVORN_REFUSAL_RECORD && answer.event <= MESKVORN_EVENT_LINES && answer.end <= 1 &&
-                  packed >> 48 == 0);
-            CHECK(filled(memory.before, GUARD) && filled(memory.after, GUARD));
+            (void)refused_on_any_content(operation, (uint8_t)(content % 16), 1);
         }
         EXPECT(REFUSED(2), meskvorn_bus_build(bus, addresses, 16, 0));
         CHECK(memcmp(bus, &no_parties, sizeof *bus) == 0);
         memset(bus, content, sizeof *bus);
         p1_and_p2();
     }
+}
+
+/* Bytes that no build gives, over all their range and below eight, and a built bus with one of its bytes changed. */
+static void contents_of_no_build(void)
+{
+    uint16_t state = 488;
+    int round, refused = 0, calls = 0;
+    for (round = 0; round < 3000; round++) {
+        uint8_t operation = (uint8_t)(round % 16), party = (uint8_t)(round / 16 % 4 * 5);
+        if (round % 3 == 2) {
+            stand(3);
+            ((uint8_t *)bus)[round % (int)sizeof *bus] = (uint8_t)(state >> 8);
+        } else {
+            mix(&state, round % 3 == 0 ? 255 : 7);
+        }
+        refused += refused_on_any_content(operation, party, 1);
+        calls++;
+    }
+    CHECK(refused > 500 && calls - refused > 500);
 }
 
 int main(void)
@@ -324,7 +320,7 @@ int main(void)
     reset_and_full();
     parties_and_values();
     null_pointers();
-    scripts();
-    any_content();
+    one_content_throughout();
+    contents_of_no_build();
     return report("host/test.c");
 }

@@ -114,24 +114,40 @@ static void runs_refused_and_null(void)
     EXPECT("0 read 41 1 0 0", meskvorn_bus_read(bus, 1));
 }
 
-/* Whatever the memory held, a run keeps to it, and gives all its turns or is refused. */
+/* A run on whatever the memory holds: it keeps to it, and gives all its turns, or is refused and changes no byte. */
+static meskvorn_refusal run_on_any_content(void)
+{
+    const meskvorn_bus before = *bus;
+    uint16_t counts[MESKVORN_MOST_PARTIES];
+    unsigned given = 0;
+    int party;
+    meskvorn_refusal refusal = meskvorn_bus_give_turns(bus, 31, counts);
+    for (party = 0; party < MESKVORN_MOST_PARTIES; party++) {
+        given += counts[party];
+    }
+    CHECK(refusal == MESKVORN_REFUSAL_ACCEPTED || refusal == MESKVORN_REFUSAL_NOPARTY);
+    CHECK(given == (refusal == MESKVORN_REFUSAL_ACCEPTED ? 31 : 0));
+    CHECK(refusal == MESKVORN_REFUSAL_ACCEPTED || memcmp(bus, &before, sizeof before) == 0);
+    CHECK(filled(memory.before, GUARD) && filled(memory.after, GUARD));
+    return refusal;
+}
+
+/* All bytes alike, then the bus of no parties with one byte that no build leaves there. */
 static void any_content(void)
 {
-    int content;
+    static const uint8_t odd[4] = {1, 15, 128, 255};
+    int content, refused = 0;
+    size_t at;
     for (content = 0; content < 256; content++) {
-        uint16_t counts[MESKVORN_MOST_PARTIES];
-        unsigned given = 0;
-        int party;
-        meskvorn_refusal refusal;
         memset(bus, content, sizeof *bus);
-        refusal = meskvorn_bus_give_turns(bus, 31, counts);
-        for (party = 0; party < MESKVORN_MOST_PARTIES; party++) {
-            given += counts[party];
-        }
-        CHECK(given == (refusal == MESKVORN_REFUSAL_ACCEPTED ? 31 : 0));
-        CHECK(refusal == (content == 0 ? MESKVORN_REFUSAL_NOPARTY : MESKVORN_REFUSAL_ACCEPTED));
-        CHECK(filled(memory.before, GUARD) && filled(memory.after, GUARD));
+        CHECK(run_on_any_content() == (content == 0 ? MESKVORN_REFUSAL_NOPARTY : MESKVORN_REFUSAL_ACCEPTED));
     }
+    for (at = 0; at < 4 * sizeof *bus; at++) {
+        memset(bus, 0, sizeof *bus);
+        ((uint8_t *)bus)[at / 4] = odd[at % 4];
+        refused += run_on_any_content() == MESKVORN_REFUSAL_NOPARTY;
+    }
+    CHECK(refused > 1000 && refused < 4 * (int)sizeof *bus);
 }
 
 int main(void)

@@ -1,9 +1,11 @@
 //! Model and subject side by side: a list is compared call by call, and by the text of the script that
 //! it stands for.
 
+pub mod any_memory;
 pub mod builds;
 mod call_by_call;
 mod difference;
+pub mod memory;
 pub mod product;
 mod shrink;
 pub mod subject;

@@ -1,8 +1,10 @@
 //! Compares the model with a subject.
 //!
 //! No argument: the gate run. `long N [SEED]`: N million records. `vectors DIR`: all scripts of a
-//! folder against their texts. `bench`: the subject's speed beside the model's.
+//! folder against their texts. `text`: what the model prints for the script on standard input.
+//! `bench`: the subject's speed beside the model's.
 
+use std::io::{self, Read, Write};
 use std::panic;
 use std::path::Path;
 use std::process::ExitCode;
@@ -11,7 +13,8 @@ use std::sync::atomic::{AtomicBool, Ordering};
 use meskvorn_tests::bench;
 use meskvorn_tests::compare::product::Product;
 use meskvorn_tests::compare::subject::Subject;
-use meskvorn_tests::compare::{vectors, whole_run};
+use meskvorn_tests::compare::{any_memory, vectors, whole_run};
+use meskvorn_tests::model::script;
 
 const SEED: u64 = 488;
 const GATE_RECORDS: u64 = 20_000_000;
@@ -33,8 +36,12 @@ fn show_first_panic_only() {
 }
 
 fn usage() -> bool {
-    eprintln!("usage: meskvorn-tests [long MILLIONS [SEED] | vectors DIR | bench]");
+    eprintln!("usage: meskvorn-tests [long MILLIONS [SEED] | vectors DIR | text | bench]");
     false
+}
+
+fn gate() -> bool {
+    any_memory::run_library(SEED) && whole_run::run(subject().as_mut(), SEED, GATE_RECORDS)
 }
 
 fn long(millions: &str, seed: Option<&str>) -> bool {
@@ -54,15 +61,28 @@ fn vectors_of(folder: &str) -> bool {
     })
 }
 
+fn print_text() -> io::Result<()> {
+    let (mut script, mut text) = (Vec::new(), Vec::new());
+    io::stdin().read_to_end(&mut script)?;
+    script::run(&script, &mut text);
+    io::stdout().write_all(&text)
+}
+
+fn text() -> bool {
+    let printed = print_text();
+    printed.inspect_err(|error| eprintln!("{error}")).is_ok()
+}
+
 fn main() -> ExitCode {
     show_first_panic_only();
     let arguments: Vec<String> = std::env::args().skip(1).collect();
     let arguments: Vec<&str> = arguments.iter().map(String::as_str).collect();
     let good = match arguments[..] {
-        [] => whole_run::run(subject().as_mut(), SEED, GATE_RECORDS),
+        [] => gate(),
         ["long", millions] => long(millions, None),
         ["long", millions, seed] => long(millions, Some(seed)),
         ["vectors", folder] => vectors_of(folder),
+        ["text"] => text(),
         ["bench"] => {
             bench::run();
             true

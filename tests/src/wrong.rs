@@ -8,7 +8,7 @@ mod runs;
 mod second_requests;
 mod secondaries;
 
-pub use builds::{BuildFault, BUILD_FAULTS};
+pub use builds::{BuildFault, LENGTH_FAULTS, NAME_FAULTS};
 pub use drivers::{DriversFault, Shows, DRIVERS_FAULTS};
 pub use machine::MACHINE_FAULTS;
 pub use runs::{RunFault, WrongRun, RUN_FAULTS};
@@ -18,7 +18,7 @@ pub use secondaries::SECONDARY_FAULTS;
 use crate::compare::subject::{like_lines_by, try_run_by, Subject};
 use crate::lists::pieces;
 use crate::model::script::{self, Call, Record, STEP};
-use crate::model::{Answer, Bus, Drivers, Name, Party, Turns};
+use crate::model::{Answer, Bus, Drivers, Lists, Name, Party, Turns};
 
 /// Takes the bus to alter, the bus before the call, the call, and the answer to alter.
 pub type Fault = fn(&mut Bus, &Bus, Record, &mut Answer);
@@ -52,7 +52,7 @@ impl Wrong {
         Wrong {
             bus: Bus::new(),
             fault,
-            build: Bus::build_extended,
+            build: BuildFault::OfLengths(Bus::build_extended),
             drivers: Bus::drivers,
         }
     }
@@ -125,10 +125,10 @@ impl Subject for Wrong {
         self.bus.build(addresses, system)
     }
 
-    fn build_extended(&mut self, names: &[Name], system: u8) -> Answer {
-        let (build, record) = (self.build, pieces::build_of_named(system));
+    fn build_extended(&mut self, lists: &Lists, system: u8) -> Answer {
+        let (build, record) = (self.build, pieces::build_of_lists(system));
         faulty(&mut self.bus, self.fault, record, |bus| {
-            build(bus, names, system)
+            build.build(bus, lists, system)
         })
     }
 

@@ -78,7 +78,8 @@ impl Bus {
         (bus, answer)
     }
 
-    /// Party i gets `names[i]`, so that it may have a secondary address.
+    /// Party i gets `names[i]`, so that it may have a secondary address. Since a name has both, the lists
+    /// of addresses and of secondaries that the library takes are always equally long.
     pub fn build_extended(names: &[Name], system: u8) -> (Bus, Answer) {
         let mut bus = Bus::NO_PARTIES;
         let answer = bus.rebuild_extended(names, system);
@@ -226,9 +227,9 @@ impl Bus {
     }
 }
 
-/// Runs a script and writes its text at the start of `out`, if that has 34 bytes for each record and
-/// part of one. Gives the number of bytes written; None if there was no room, and then nothing is
-/// written.
+/// Runs a script, writes its text at the start of `out`, and gives the number of bytes written. The room
+/// has to be 34 bytes for each record and part of one, or 34 bytes in all for a script of over 65,532
+/// bytes, whose text is one line. None if there is less, and then nothing is written.
 pub fn run(script: &[u8], out: &mut [u8]) -> Option<usize> {
     // SAFETY: both slices are lent for the call alone, with the lengths that they have.
     let written =

@@ -1,4 +1,5 @@
-//! Scripts: the text that document 01 gives, and a buffer that has no room, which is left as it was.
+//! Scripts: the text that document 01 gives, the room that it has to have, and a buffer without that
+//! room, which is left as it was.
 
 use meskvorn::run;
 
@@ -46,20 +47,36 @@ fn too_small_a_buffer_is_answered_and_untouched() {
     }
 }
 
-#[test]
-fn an_empty_script_writes_nothing() {
-    let mut out = [0x55; 3];
-    assert_eq!(run(&[], &mut out), Some(0));
-    assert_eq!(out, [0x55; 3]);
+/// Runs the script in this room; what is behind it is not lent. The text, if there was room.
+#[track_caller]
+fn run_in(script: &[u8], room: usize) -> Option<String> {
+    let mut buffer = vec![0x55; room + 100];
+    let written = run(script, &mut buffer[..room]);
+    let text = buffer.drain(..written.unwrap_or(0)).collect();
+    assert!(buffer.iter().all(|&byte| byte == 0x55), "room {room}");
+    written.map(|_| String::from_utf8(text).expect("text"))
 }
 
+/// How many lines a script of so many bytes has, and the last of them.
 #[test]
-fn a_script_past_the_longest_gets_one_line() {
-    let script = vec![0x47; 65_533];
-    let mut small = [0x55; 33];
-    assert_eq!(run(&script, &mut small), None);
-    assert_eq!(small, [0x55; 33]);
-    let mut out = [0x55; 34];
-    assert_eq!(run(&script, &mut out), Some(19));
-    assert_eq!(&out[..19], b"0 10 none -- 0 0 0\n");
+fn the_room_is_34_bytes_a_line() {
+    let script = [0x47, 0x42, 12, 0, 0, 0].repeat(10_923);
+    for (length, lines, last) in [
+        (0, 0, None),
+        (1, 1, Some("1 10 none -- 0 0 0")),
+        (6, 1, Some("1 0 lines 00 0 0 0")),
+        (7, 2, Some("2 10 none -- 0 0 0")),
+        (65_531, 10_922, Some("10922 10 none -- 0 0 0")),
+        (65_532, 10_922, Some("10922 0 lines 00 0 0 0")),
+        (65_533, 1, Some("0 10 none -- 0 0 0")),
+        (65_538, 1, Some("0 10 none -- 0 0 0")),
+    ] {
+        let script = &script[..length];
+        let text = run_in(script, 34 * lines).expect("34 bytes a line");
+        assert_eq!(text.lines().count(), lines, "length {length}");
+        assert_eq!(text.lines().last(), last);
+        if lines > 0 {
+            assert_eq!(run_in(script, 34 * lines - 1), None, "length {length}");
+        }
+    }
 }

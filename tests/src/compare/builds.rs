@@ -3,6 +3,7 @@
 
 use super::subject::{self, Subject};
 use super::words;
+use crate::ledger::tally::Lengths;
 use crate::lists::command_codes::{self, LISTEN_ADDRESS};
 use crate::lists::likely_arguments::likely_turns;
 use crate::lists::pieces;
@@ -11,7 +12,7 @@ use crate::lists::random_racks;
 use crate::model::script::{
     self, Call, Record, BUILD, CLEAR, LAST_OPERATION, LINES, STEP, TALK, WRITE,
 };
-use crate::model::{Answer, Bus, Name, MOST_PARTIES};
+use crate::model::{Answer, Bus, Lists, Name, MOST_PARTIES};
 
 const LISTS: usize = 20_000;
 const CALLS_AFTER: usize = 30;
@@ -22,9 +23,10 @@ const ROUNDS_A_COMMAND: usize = 5;
 /// What was compared.
 #[derive(Default, Debug)]
 pub struct Compared {
-    /// Builds accepted and refused, without secondaries and with some.
+    /// Builds from addresses alone, accepted and refused.
     pub plain: [u64; 2],
-    pub extended: [u64; 2],
+    /// Builds with a list of secondaries, be it empty.
+    pub lengths: Lengths,
     pub calls: u64,
     pub runs: u64,
 }
@@ -33,8 +35,7 @@ impl Compared {
     pub fn print(&self) {
         let ([plain, refused], runs) = (self.plain, self.runs);
         println!("address lists: {plain} accepted, {refused} refused; {runs} runs");
-        let [extended, refused] = self.extended;
-        println!("with secondaries: {extended} accepted, {refused} refused");
+        self.lengths.print();
     }
 }
 
@@ -44,7 +45,7 @@ type Done = Result<(), String>;
 struct Pair<'a> {
     subject: &'a mut dyn Subject,
     bus: Bus,
-    built: (Vec<Name>, u8),
+    built: (Lists, u8),
     calls: Vec<Record>,
     compared: Compared,
 }
@@ -59,9 +60,8 @@ impl Pair<'_> {
     }
 
     fn differ(&self, model: String, subject: String) -> Done {
-        let (names, system) = &self.built;
-        let names: Vec<String> = names.iter().map(|name| words::name(*name)).collect();
-        let mut story = format!("build {}, system party {system}", names.join(" "));
+        let (lists, system) = &self.built;
+        let mut story = format!("build {}, system party {system}", words::lists(lists));
         for call in &self.calls {
             story += &format!("\n{}", words::piece(call));
         }
@@ -71,16 +71,16 @@ impl Pair<'_> {
     fn build(&mut self, addresses: &[u8], system: u8) -> Done {
         let model = self.bus.build(addresses, system);
         let subject = self.subject.build(addresses, system);
-        self.built = (addresses.iter().copied().map(Name::plain).collect(), system);
+        self.built = (Lists::plain(addresses), system);
         self.compared.plain[usize::from(!model.accepted())] += 1;
         self.agree_on_build(model, subject)
     }
 
-    fn build_extended(&mut self, names: &[Name], system: u8) -> Done {
-        let model = self.bus.build_extended(names, system);
-        let subject = self.subject.build_extended(names, system);
-        self.built = (names.to_vec(), system);
-        self.compared.extended[usize::from(!model.accepted())] += 1;
+    fn build_extended(&mut self, lists: &Lists, system: u8) -> Done {
+        let model = self.bus.build_extended(lists, system);
+        let subject = self.subject.build_extended(lists, system);
+        self.built = (lists.clone(), system);
+        self.compared.lengths.enter(lists, system);
         self.agree_on_build(model, subject)
     }
 
@@ -131,7 +131,7 @@ impl Pair<'_> {
     /// to a listener, and with 5 to all others.
     fn address_one(&mut self, random: &mut Random) -> Done {
         let system = self.built.1;
-        let name = random.pick(&self.built.0);
+        let name = self.bus.parties[random.below(self.bus.count)].name;
         self.call([CLEAR, system, 0, 0])?;
         for command in command_codes::addressing(LISTEN_ADDRESS, name) {
             self.call([WRITE, system, command, 0])?;
@@ -175,8 +175,28 @@ impl Pair<'_> {
             for system in (0..=count + 1).chain([255]) {
                 self.build(&addresses, system)?;
                 self.clear_by_each(count)?;
-                self.build_extended(&names, system)?;
+                self.build_extended(&Lists::of(&names), system)?;
                 self.clear_by_each(count)?;
+            }
+        }
+        Ok(())
+    }
+
+    /// Every number of parties with every number of secondaries, good ones and none.
+    fn every_two_lengths(&mut self) -> Done {
+        for count in 0..=MOST_PARTIES as u8 + 2 {
+            let addresses: Vec<u8> = (0..count).map(|place| 30 - place).collect();
+            for given in (0..=count + 3).chain([u8::MAX]) {
+                let good: Vec<Option<u8>> = (0..given).map(|place| Some(place % 31)).collect();
+                for secondaries in [good, vec![None; usize::from(given)]] {
+                    let addresses = addresses.clone();
+                    let lists = Lists {
+                        addresses,
+                        secondaries,
+                    };
+                    self.build_extended(&lists, 0)?;
+                    self.clear_by_each(count)?;
+                }
             }
         }
         Ok(())
@@ -207,7 +227,7 @@ impl Pair<'_> {
         for one in &names {
             for two in &names {
                 for system in 0..3 {
-                    self.build_extended(&[*one, *two], system)?;
+                    self.build_extended(&Lists::of(&[*one, *two]), system)?;
                     self.call([CLEAR, system, 0, 0])?;
                 }
             }
@@ -232,8 +252,8 @@ impl Pair<'_> {
     fn any_lists(&mut self, random: &mut Random) -> Done {
         for _ in 0..LISTS {
             if random.per_mille(500) {
-                let names = name_list(random);
-                self.build_extended(&names, random.field(names.len() + 2))?;
+                let (lists, system) = two_lists(random);
+                self.build_extended(&lists, system)?;
             } else {
                 let addresses = address_list(random);
                 self.build(&addresses, random.field(addresses.len() + 2))?;
@@ -252,12 +272,8 @@ impl Pair<'_> {
 
 /// Distinct addresses in an order of chance, then often one defect.
 fn address_list(random: &mut Random) -> Vec<u8> {
-    let mut addresses: Vec<u8> = (0..31).collect();
-    for place in 0..addresses.len() {
-        let other = place + random.below(addresses.len() - place);
-        addresses.swap(place, other);
-    }
-    addresses.truncate(random.below(18));
+    let count = random.below(18);
+    let mut addresses = random_racks::addresses(count, random);
     if !addresses.is_empty() {
         let place = random.below(addresses.len());
         match random.below(6) {
@@ -270,14 +286,16 @@ fn address_list(random: &mut Random) -> Vec<u8> {
     addresses
 }
 
-/// A rack of both sorts, then often one defect.
-fn name_list(random: &mut Random) -> Vec<Name> {
+/// Lists for a rack of both sorts, often with one defect, and mostly one of its parties.
+fn two_lists(random: &mut Random) -> (Lists, u8) {
     let count = random.below(18);
-    let mut names = random_racks::mixed(count, random);
-    if count > 0 && random.per_mille(500) {
-        random_racks::spoil(&mut names, random);
-    }
-    names
+    let lists = if random.per_mille(600) {
+        random_racks::spoiled(count, random)
+    } else {
+        random_racks::lists(count, random)
+    };
+    let (own, any) = (random.below(count.max(1)) as u8, random.field(count + 2));
+    (lists, random.pick(&[own, own, own, any]))
 }
 
 /// The error tells the build and the calls that lead to a difference.
@@ -286,11 +304,12 @@ pub fn run(subject: &mut dyn Subject, seed: u64) -> Result<Compared, String> {
     let mut pair = Pair {
         subject,
         bus: Bus::new(),
-        built: (Vec::new(), 0),
+        built: (Lists::default(), 0),
         calls: Vec::new(),
         compared: Compared::default(),
     };
     pair.every_system_party()?;
+    pair.every_two_lengths()?;
     pair.every_two_names()?;
     pair.every_operation()?;
     pair.any_lists(&mut Random::new(seed ^ u64::from(BUILD)))?;

@@ -7,7 +7,7 @@ use crate::ledger::tally::Tally;
 use crate::ledger::{Ledger, Requests};
 use crate::lists::pieces::{self, Piece};
 use crate::model::script::{self, Record, BUILD, STEP};
-use crate::model::{Answer, Bus, Name, Refusal};
+use crate::model::{Answer, Bus, Lists, Refusal};
 
 type Done = Result<(), Difference>;
 
@@ -65,10 +65,11 @@ impl Walk<'_> {
         Ok(())
     }
 
-    fn build(&mut self, names: &[Name], system: u8) -> Done {
-        let as_record = pieces::build_of_named(system);
-        let subject = self.subject.build_extended(names, system);
-        self.agree(as_record, subject, |bus| bus.build_extended(names, system))?;
+    fn build(&mut self, lists: &Lists, system: u8) -> Done {
+        let as_record = pieces::build_of_lists(system);
+        let subject = self.subject.build_extended(lists, system);
+        self.agree(as_record, subject, |bus| bus.build_extended(lists, system))?;
+        self.tally.lengths.enter(lists, system);
         self.agree_on_names()
     }
 
@@ -165,8 +166,8 @@ impl Walk<'_> {
         match piece {
             Piece::Run(turns) => self.run(*turns)?,
             Piece::Drivers => self.drivers()?,
-            Piece::Name(_) => return Ok(true),
-            Piece::Build(names, system) => self.build(names, *system)?,
+            Piece::Address(_) | Piece::Secondary(_) => return Ok(true),
+            Piece::Build(lists, system) => self.build(lists, *system)?,
             Piece::Record(record) => {
                 self.record(*record)?;
                 if !script::has_mark(record) {

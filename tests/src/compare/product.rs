@@ -1,15 +1,17 @@
-//! The proved library under test, through the wrapper that Rust programs use.
+//! The proved library under test, through the wrapper that Rust programs use; builds from lists that
+//! the wrapper does not give, as C programs make them.
 
 use meskvorn::Bus;
 
+use super::memory::{self, Rows};
 use super::subject::{like_lines_by, try_run_by, Subject};
 use crate::model::script::{
     Call, CLEAR, DROP, LINES, LISTEN, POLL, READ, RECORD, REQUEST, RESET, STANDBY, STEP, TAKE,
     TALK, WRITE,
 };
-use crate::model::{Answer, Drivers, Event, Line, Name, Refusal, Turns};
+use crate::model::{Answer, Drivers, Event, Line, Lists, Name, Refusal, Turns};
 
-/// What the longest line of text takes.
+/// The room that there has to be for a line of text.
 const LINE: usize = 34;
 
 /// No call writes past its text: the buffer keeps this there.
@@ -19,6 +21,12 @@ const UNTOUCHED: u8 = 0xee;
 pub struct Product {
     bus: Bus,
     buffer: Vec<u8>,
+}
+
+impl Product {
+    pub fn rows(&self) -> Rows {
+        memory::rows_of(&self.bus)
+    }
 }
 
 fn in_the_models_terms(answer: meskvorn::Answer) -> Answer {
@@ -92,14 +100,18 @@ impl Subject for Product {
         in_the_models_terms(self.bus.rebuild(addresses, system))
     }
 
-    fn build_extended(&mut self, names: &[Name], system: u8) -> Answer {
-        let names: Vec<meskvorn::Name> = names
-            .iter()
-            .map(|name| meskvorn::Name {
-                primary: name.primary,
-                secondary: name.secondary,
-            })
-            .collect();
+    fn build_extended(&mut self, lists: &Lists, system: u8) -> Answer {
+        let names = lists.names().filter(|_| !lists.secondaries.is_empty());
+        let Some(names) = names else {
+            let (bus, answer) = memory::build_extended(lists, system);
+            self.bus = bus;
+            return answer;
+        };
+        let names = names.into_iter().map(|name| meskvorn::Name {
+            primary: name.primary,
+            secondary: name.secondary,
+        });
+        let names: Vec<meskvorn::Name> = names.collect();
         in_the_models_terms(self.bus.rebuild_extended(&names, system))
     }
 

@@ -6,15 +6,24 @@ use crate::ledger::tally::Tally;
 use crate::lists::pieces::Piece;
 use crate::model::script::{BUILD, LINES, RECORD, WRITE};
 
+/// The places of the addresses and of the secondaries that stand right before the build at `at`.
+fn entries(pieces: &[Vec<u8>], at: usize) -> [Vec<usize>; 2] {
+    let mut places = [Vec::new(), Vec::new()];
+    for place in (0..at).rev() {
+        match Piece::of(&pieces[place]) {
+            Piece::Address(_) => places[0].insert(0, place),
+            Piece::Secondary(_) => places[1].insert(0, place),
+            _ => break,
+        }
+    }
+    places
+}
+
 /// How many parties the piece at this place builds, if it is a build.
 fn parties_built(pieces: &[Vec<u8>], at: usize) -> Option<usize> {
     match Piece::of(&pieces[at]) {
         Piece::Record([_, _, BUILD, _, count, _]) => Some(count.into()),
-        Piece::Build(..) => {
-            let before = pieces[..at].iter().rev();
-            let names = before.take_while(|piece| matches!(Piece::of(piece), Piece::Name(_)));
-            Some(names.count())
-        }
+        Piece::Build(..) => Some(entries(pieces, at)[0].len()),
         _ => None,
     }
 }
@@ -50,15 +59,16 @@ fn renumbered(piece: &[u8], gone: u8, moved: u8) -> Option<Vec<u8>> {
 fn without_party(pieces: &[Vec<u8>], at: usize, gone: u8) -> Vec<Vec<u8>> {
     let (mut fewer, mut build) = (pieces[..at].to_vec(), pieces[at].clone());
     build[3] -= u8::from(build[3] > gone);
-    let moved = match (Piece::of(&build), parties_built(pieces, at)) {
-        (Piece::Build(..), Some(names)) => {
-            fewer.remove(at - names + usize::from(gone));
-            u8::MAX
+    let moved = if matches!(Piece::of(&build), Piece::Build(..)) {
+        let own = entries(pieces, at).map(|places| places.get(usize::from(gone)).copied());
+        // Its secondary, if it has one, stands after its address.
+        for place in own.into_iter().flatten().rev() {
+            fewer.remove(place);
         }
-        _ => {
-            build[4] -= 1;
-            build[5].saturating_add(gone)
-        }
+        u8::MAX
+    } else {
+        build[4] -= 1;
+        build[5].saturating_add(gone)
     };
     let after = &pieces[at + 1..];
     let next = *builds(after).first().unwrap_or(&after.len());
@@ -129,6 +139,18 @@ impl Shrinker<'_> {
         any
     }
 
+    /// Leaves out whole lists of secondaries; true if any could go.
+    fn fewer_secondaries(&mut self) -> bool {
+        let mut any = false;
+        for number in 0..builds(&self.pieces).len() {
+            let [_, own] = entries(&self.pieces, builds(&self.pieces)[number]);
+            let kept = (0..self.pieces.len()).filter(|place| !own.contains(place));
+            let pieces = kept.map(|place| self.pieces[place].clone()).collect();
+            any |= !own.is_empty() && self.try_pieces(pieces);
+        }
+        any
+    }
+
     /// Makes party, value and extra smaller where that keeps a difference.
     fn lower_fields(&mut self) -> bool {
         let mut any = false;
@@ -164,7 +186,11 @@ impl Shrinker<'_> {
             self.leave_out(size);
             size = size.div_ceil(2);
         }
-        while self.leave_out(1) || self.fewer_parties() || self.lower_fields() {}
+        while self.leave_out(1)
+            || self.fewer_parties()
+            || self.fewer_secondaries()
+            || self.lower_fields()
+        {}
         self.cut_after_difference();
     }
 }

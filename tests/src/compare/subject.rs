@@ -1,7 +1,8 @@
 //! The thing under test, as the comparison drives it.
 
+use crate::lists::pieces::{self, Piece};
 use crate::model::script::{self, Call, Record};
-use crate::model::{Answer, Bus, Drivers, Name, Turns, MOST_PARTIES};
+use crate::model::{Answer, Bus, Drivers, Lists, Name, Turns, MOST_PARTIES};
 
 pub trait Subject {
     /// Runs a whole script from the bus of no parties and adds the text of busrun to `out`.
@@ -14,8 +15,8 @@ pub trait Subject {
     /// Builds the kept bus from addresses in any order, as no record can.
     fn build(&mut self, addresses: &[u8], system: u8) -> Answer;
 
-    /// The same with secondaries.
-    fn build_extended(&mut self, names: &[Name], system: u8) -> Answer;
+    /// The same with a list of secondaries, be they too few or too many.
+    fn build_extended(&mut self, lists: &Lists, system: u8) -> Answer;
 
     /// What a build named the party, if there is one.
     fn name(&self, party: u8) -> Option<Name>;
@@ -39,6 +40,20 @@ pub trait Subject {
     /// One record on the kept bus.
     fn record(&mut self, record: Record) -> Answer {
         script::run_record_by(self, record, Self::build, Self::call)
+    }
+}
+
+/// A whole list on the kept bus, from the bus of no parties, whatever it is answered.
+pub fn enter_list(subject: &mut dyn Subject, list: &[u8]) {
+    subject.start();
+    for piece in pieces::of_list(list) {
+        match piece {
+            Piece::Run(turns) => _ = subject.give_turns(turns),
+            Piece::Drivers => _ = subject.drivers(),
+            Piece::Build(lists, system) => _ = subject.build_extended(&lists, system),
+            Piece::Record(record) => _ = subject.record(record),
+            Piece::Address(_) | Piece::Secondary(_) | Piece::Tail => {}
+        }
     }
 }
 
@@ -94,8 +109,8 @@ impl Subject for ModelSubject {
         self.bus.build(addresses, system)
     }
 
-    fn build_extended(&mut self, names: &[Name], system: u8) -> Answer {
-        self.bus.build_extended(names, system)
+    fn build_extended(&mut self, lists: &Lists, system: u8) -> Answer {
+        self.bus.build_extended(lists, system)
     }
 
     fn name(&self, party: u8) -> Option<Name> {

@@ -43,8 +43,8 @@ pub fn shortest(comparison: &mut Comparison, seed: u64, first: Finding) -> Findi
     best
 }
 
-/// Tables, then guided lists until so many records were compared. True if all agreed
-/// and every refusal and event came.
+/// Builds and tables, then guided lists until so many records were compared. True if all agreed, and
+/// all came that has to come.
 pub fn run(subject: &mut dyn Subject, seed: u64, records: u64) -> bool {
     let start = Instant::now();
     let lists = match builds::run(subject, seed) {
@@ -69,7 +69,8 @@ pub fn run(subject: &mut dyn Subject, seed: u64, records: u64) -> bool {
     println!("{kinds} kinds of state; {seconds:.1} s, seed {seed}");
     println!("{:.0} records per second", tally.records as f64 / seconds);
     println!("{} calls compared one by one", lists.calls + tally.calls());
-    let missing = tally.missing();
+    let mut missing = tally.missing();
+    missing.extend(lists.lengths.missing());
     if !missing.is_empty() {
         println!("NEVER CAME {}", missing.join(", "));
     }

@@ -2,7 +2,7 @@
 
 use crate::lists::pieces::Piece;
 use crate::model::script::{self, Call};
-use crate::model::{Answer, Drivers, Line, Name, Refusal};
+use crate::model::{Answer, Drivers, Line, Lists, Refusal};
 
 fn switch(value: u8) -> String {
     match value {
@@ -32,10 +32,16 @@ pub fn call([operation, party, value, extra]: Call) -> String {
     }
 }
 
-/// As primary/secondary, or the primary alone.
-pub fn name(name: Name) -> String {
-    let secondary = name.secondary.map(|own| format!("/{own}"));
-    format!("{}{}", name.primary, secondary.unwrap_or_default())
+fn secondary(secondary: Option<u8>) -> String {
+    secondary.map_or("none".to_string(), |own| own.to_string())
+}
+
+/// Both lists, as 5 6 7 and none 12 13.
+pub fn lists(lists: &Lists) -> String {
+    let addresses: Vec<String> = lists.addresses.iter().map(u8::to_string).collect();
+    let own = lists.secondaries.iter().map(|own| secondary(*own));
+    let (addresses, own) = (addresses.join(" "), own.collect::<Vec<String>>().join(" "));
+    format!("addresses [{addresses}], secondaries [{own}]")
 }
 
 /// One piece of a list.
@@ -43,8 +49,9 @@ pub fn piece(bytes: &[u8]) -> String {
     match Piece::of(bytes) {
         Piece::Run(turns) => format!("run of {turns} turns"),
         Piece::Drivers => "drivers".to_string(),
-        Piece::Name(party) => format!("a party named {}", name(party)),
-        Piece::Build(_, system) => format!("build of those named, system party {system}"),
+        Piece::Address(address) => format!("an address, {address}"),
+        Piece::Secondary(own) => format!("a secondary, {}", secondary(own)),
+        Piece::Build(_, system) => format!("build from these lists, system party {system}"),
         Piece::Record(record) if !script::has_mark(&record) => "wrong mark".to_string(),
         Piece::Record([_, _, script::BUILD, system, count, first]) => {
             format!("build {count} parties from address {first}, system party {system}")
@@ -67,7 +74,7 @@ pub fn answer(answer: &Answer) -> String {
     let text = String::from_utf8_lossy(&line[2..]).trim_end().to_string();
     match answer.refusal {
         Refusal::Accepted => text,
-        refusal => format!("{text} ({})", Refusal::WORDS[refusal as usize]),
+        refusal => format!("{text} ({})", refusal.word()),
     }
 }
 

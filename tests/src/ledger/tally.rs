@@ -1,11 +1,14 @@
 //! How often everything came that a comparison has to meet: refusals, events, losses, runs and starts
-//! of the bound here; effects of secondaries, numbers of drivers and cases of requests in modules.
+//! of the bound here; effects of secondaries, lengths of their lists, numbers of drivers and cases of
+//! requests in modules.
 
 mod driver_counts;
+mod list_lengths;
 mod mark_counts;
 mod request_cases;
 
 pub use driver_counts::Driven;
+pub use list_lengths::Lengths;
 pub use mark_counts::Marks;
 pub use request_cases::{Asked, Case};
 
@@ -25,6 +28,7 @@ pub struct Tally {
     pub turns: u64,
     pub bound: Tried,
     pub marks: Marks,
+    pub lengths: Lengths,
     pub driven: Driven,
     pub asked: Asked,
 }
@@ -74,6 +78,7 @@ impl Tally {
         let starts = self.bound.starts.iter().zip(Tried::WORDS);
         let few = starts.filter(|(count, _)| **count < LEAST_STARTS);
         let few = few.map(|(_, word)| word);
+        let few = few.chain(self.lengths.missing());
         let few = few.chain(self.driven.missing());
         never.chain(few).chain(self.asked.missing()).collect()
     }
@@ -98,6 +103,7 @@ impl Tally {
         for (word, count) in Marks::WORDS.iter().zip(&self.marks.counts) {
             println!("    {word:<30} {count:>12}");
         }
+        self.lengths.print();
         self.driven.print();
         self.asked.print();
     }

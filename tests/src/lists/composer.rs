@@ -2,7 +2,7 @@
 
 use super::pieces;
 use crate::model::script::{self, Record, STEP, WRITE};
-use crate::model::{Answer, Bus, Drivers, Event, Name, MOST_PARTIES};
+use crate::model::{Answer, Bus, Drivers, Event, Lists, Name, MOST_PARTIES};
 
 #[derive(Clone, Default)]
 pub struct Composer {
@@ -22,8 +22,9 @@ impl Composer {
     }
 
     pub fn build(&mut self, names: &[Name], system: u8) -> Answer {
-        self.records.extend(pieces::build(names, system));
-        self.bus.build_extended(names, system)
+        let lists = Lists::of(names);
+        self.records.extend(pieces::build(&lists, system));
+        self.bus.build_extended(&lists, system)
     }
 
     pub fn run(&mut self, turns: u16) {

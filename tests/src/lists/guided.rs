@@ -13,7 +13,7 @@ use crate::model::script::{
     self, Record, BUILD, CLEAR, DROP, LAST_OPERATION, LINES, LISTEN, POLL, READ, REQUEST, RESET,
     STANDBY, STEP, TAKE, TALK, WRITE,
 };
-use crate::model::{Acceptor, Bus, Control, Event, Name};
+use crate::model::{Acceptor, Bus, Control, Event, Lists};
 
 /// How one list behaves, in times per thousand.
 #[derive(Clone, Copy, Default)]
@@ -111,7 +111,7 @@ impl Guided {
             let record = self.wild_record();
             self.call(record);
         }
-        while self.random.per_mille(60) {
+        while self.random.per_mille(150) {
             self.bad_build();
         }
         while self.random.per_mille(60) {
@@ -136,8 +136,8 @@ impl Guided {
         };
         let system = random.below(count) as u8;
         if random.per_mille(self.habits.secondaries) {
-            let names = random_racks::mixed(count, random);
-            return self.build(&names, system);
+            let lists = random_racks::lists(count, random);
+            return self.build(&lists, system);
         }
         let first = match random.below(4) {
             0 => 0,
@@ -151,9 +151,8 @@ impl Guided {
         let random = &mut self.random;
         let count = 1 + random.below(15) as u8;
         if random.per_mille(self.habits.secondaries) {
-            let mut names = random_racks::mixed(count.into(), random);
-            random_racks::spoil(&mut names, random);
-            return self.build(&names, 0);
+            let lists = random_racks::spoiled(count.into(), random);
+            return self.build(&lists, 0);
         }
         let record = match random.below(5) {
             0 => script::record(BUILD, random.below(2) as u8, 0, random.below(31) as u8),
@@ -180,9 +179,9 @@ impl Guided {
         self.list.extend_from_slice(&record);
     }
 
-    fn build(&mut self, names: &[Name], system: u8) {
-        self.bus.build_extended(names, system);
-        self.list.extend(pieces::build(names, system).concat());
+    fn build(&mut self, lists: &Lists, system: u8) {
+        self.bus.build_extended(lists, system);
+        self.list.extend(pieces::build(lists, system).concat());
     }
 
     fn next_call(&mut self) {

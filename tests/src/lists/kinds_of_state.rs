@@ -11,7 +11,7 @@ use crate::model::script::{
     self, Record, BUILD, CLEAR, DROP, LAST_OPERATION, LINES, LISTEN, POLL, READ, REQUEST, RESET,
     STANDBY, STEP, TAKE, TALK, WRITE,
 };
-use crate::model::{Acceptor, Bus, Control, Kind, Mark, Name, Service, Source, ATN, DAV};
+use crate::model::{Acceptor, Bus, Control, Kind, Lists, Mark, Name, Service, Source, ATN, DAV};
 
 const PARTIES: u8 = 3;
 const FIRST_ADDRESS: u8 = 5;
@@ -182,14 +182,22 @@ fn all_calls() -> Vec<Record> {
 }
 
 fn builds() -> Vec<Vec<Record>> {
-    let equal = [Name::extended(6, 1), Name::extended(6, 1)];
+    let equal = Lists::of(&[Name::extended(6, 1), Name::extended(6, 1)]);
+    let beside = Lists::of(&EXTENDED_RACK[1..]);
+    let mut too_few = Lists::of(&[Name::extended(6, 1), Name::plain(5)]);
+    too_few.secondaries.pop();
+    let mut too_many = beside.clone();
+    too_many.secondaries.push(None);
     vec![
         vec![script::record(BUILD, 1, 2, 29)],
         vec![script::record(BUILD, 0, 0, 5)],
         vec![script::record(BUILD, 0, 2, 30)],
         vec![script::record(BUILD, 2, 2, 5)],
-        pieces::build(&EXTENDED_RACK[1..], 1),
+        pieces::build(&beside, 1),
         pieces::build(&equal, 0),
+        pieces::build(&Lists::plain(&beside.addresses), 1),
+        pieces::build(&too_few, 0),
+        pieces::build(&too_many, 0),
     ]
 }
 

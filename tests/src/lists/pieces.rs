@@ -1,16 +1,17 @@
 //! The pieces of a list: the records of a script, and among them runs, calls for drivers and builds
-//! with secondaries, which no script can ask for. These come in sixes of bytes too, each with a mark
+//! from two lists, which no script can ask for. These come in sixes of bytes too, each with a mark
 //! of its own, so that a list is cut as a script is.
 
 use std::borrow::Cow;
 use std::mem;
 
 use crate::model::script::{self, Record, BUILD, LINES, RECORD, STEP};
-use crate::model::{Answer, Bus, Name, Refusal};
+use crate::model::{Answer, Bus, Lists, Refusal};
 
 const RUN_MARK: [u8; 2] = [0x52, 0x54];
 const DRIVERS_MARK: [u8; 2] = [0x44, 0x52];
-const NAME_MARK: [u8; 2] = [0x4E, 0x41];
+const ADDRESS_MARK: [u8; 2] = [0x41, 0x44];
+const SECONDARY_MARK: [u8; 2] = [0x53, 0x41];
 const BUILD_MARK: [u8; 2] = [0x58, 0x50];
 
 /// Stands where a record has its operation, and is none.
@@ -22,17 +23,19 @@ pub enum Piece {
     Run(u16),
     /// The drivers of each line.
     Drivers,
-    /// One party of the build that follows.
-    Name(Name),
-    /// The parties named right before, and the system party.
-    Build(Vec<Name>, u8),
+    /// An entry of the first list of the build that follows.
+    Address(u8),
+    /// An entry of its second list.
+    Secondary(Option<u8>),
+    /// The lists right before it, and the system party.
+    Build(Lists, u8),
     Record(Record),
     /// Fewer than six bytes.
     Tail,
 }
 
 impl Piece {
-    /// A piece by itself, so that a build has no names.
+    /// A piece by itself, so that a build has empty lists.
     pub fn of(bytes: &[u8]) -> Piece {
         let Ok(record) = Record::try_from(bytes) else {
             return Piece::Tail;
@@ -41,9 +44,10 @@ impl Piece {
         match ([mark, second], fields) {
             (RUN_MARK, [_, high, low]) => Piece::Run(u16::from_be_bytes([high, low])),
             (DRIVERS_MARK, _) => Piece::Drivers,
-            (NAME_MARK, [primary, 0, _]) => Piece::Name(Name::plain(primary)),
-            (NAME_MARK, [primary, _, own]) => Piece::Name(Name::extended(primary, own)),
-            (BUILD_MARK, [system, ..]) => Piece::Build(Vec::new(), system),
+            (ADDRESS_MARK, [address, ..]) => Piece::Address(address),
+            (SECONDARY_MARK, [0, ..]) => Piece::Secondary(None),
+            (SECONDARY_MARK, [_, own, _]) => Piece::Secondary(Some(own)),
+            (BUILD_MARK, [system, ..]) => Piece::Build(Lists::default(), system),
             _ => Piece::Record(record),
         }
     }
@@ -58,40 +62,42 @@ pub const fn run(turns: u16) -> Record {
 /// A call for the drivers.
 pub const DRIVERS: Record = [DRIVERS_MARK[0], DRIVERS_MARK[1], NO_OPERATION, 0, 0, 0];
 
-fn name(name: Name) -> Record {
-    let (has, secondary) = match name.secondary {
-        Some(own) => (1, own),
-        None => (0, 0),
-    };
-    let [mark, second] = NAME_MARK;
-    [mark, second, NO_OPERATION, name.primary, has, secondary]
+fn address(address: u8) -> Record {
+    let [mark, second] = ADDRESS_MARK;
+    [mark, second, NO_OPERATION, address, 0, 0]
 }
 
-/// The build itself, whose names stand before it.
-pub fn build_of_named(system: u8) -> Record {
+fn secondary(secondary: Option<u8>) -> Record {
+    let [mark, second] = SECONDARY_MARK;
+    let has = u8::from(secondary.is_some());
+    [mark, second, NO_OPERATION, has, secondary.unwrap_or(0), 0]
+}
+
+/// The build itself, whose lists stand before it.
+pub fn build_of_lists(system: u8) -> Record {
     [BUILD_MARK[0], BUILD_MARK[1], BUILD, system, 0, 0]
 }
 
-/// A build of parties with these names.
-pub fn build(names: &[Name], system: u8) -> Vec<Record> {
-    let named = names.iter().map(|party| name(*party));
-    named.chain([build_of_named(system)]).collect()
+/// A build from these lists.
+pub fn build(lists: &Lists, system: u8) -> Vec<Record> {
+    let addresses = lists.addresses.iter().map(|&own| address(own));
+    let secondaries = lists.secondaries.iter().map(|&own| secondary(own));
+    let entries = addresses.chain(secondaries);
+    entries.chain([build_of_lists(system)]).collect()
 }
 
-/// The pieces of a list one after the other, builds with their names.
+/// The pieces of a list one after the other, builds with their lists.
 pub fn of_list(list: &[u8]) -> impl Iterator<Item = Piece> + '_ {
-    let mut names = Vec::new();
+    let mut lists = Lists::default();
     list.chunks(RECORD).map(move |bytes| {
-        let before = mem::take(&mut names);
-        match Piece::of(bytes) {
-            Piece::Name(name) => {
-                names = before;
-                names.push(name);
-                Piece::Name(name)
-            }
-            Piece::Build(_, system) => Piece::Build(before, system),
-            other => other,
+        let piece = Piece::of(bytes);
+        match piece {
+            Piece::Address(own) => lists.addresses.push(own),
+            Piece::Secondary(own) => lists.secondaries.push(own),
+            Piece::Build(_, system) => return Piece::Build(mem::take(&mut lists), system),
+            _ => lists = Lists::default(),
         }
+        piece
     })
 }
 
@@ -100,8 +106,8 @@ pub fn enter(bus: &mut Bus, piece: &Piece) -> Answer {
     match piece {
         Piece::Run(turns) => Answer::refused(bus.give_turns(*turns).refusal),
         Piece::Drivers => bus.drivers().answer,
-        Piece::Name(_) => Answer::NOTHING,
-        Piece::Build(names, system) => bus.build_extended(names, *system),
+        Piece::Address(_) | Piece::Secondary(_) => Answer::NOTHING,
+        Piece::Build(lists, system) => bus.build_extended(lists, *system),
         Piece::Record(record) => script::run_record(bus, *record),
         Piece::Tail => Answer::refused(Refusal::Record),
     }
@@ -118,12 +124,12 @@ pub fn bus_after(list: &[u8]) -> Bus {
 
 /// The script that a list stands for: each run is its steps, and a refused one is none. Where the
 /// drivers are asked for it has the lines, which leave the same bus.
-/// None if the list has a build with names.
+/// None if the list has a build from lists.
 pub fn as_script(list: &[u8]) -> Option<Cow<'_, [u8]>> {
     let mut all_records = true;
     for bytes in list.chunks(RECORD) {
         match Piece::of(bytes) {
-            Piece::Name(_) | Piece::Build(..) => return None,
+            Piece::Address(_) | Piece::Secondary(_) | Piece::Build(..) => return None,
             Piece::Run(_) | Piece::Drivers => all_records = false,
             Piece::Record(_) | Piece::Tail => {}
         }

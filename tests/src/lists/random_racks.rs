@@ -1,7 +1,18 @@
-//! Names for builds: racks of parties with and without secondaries.
+//! Names for builds: racks of parties with and without secondaries, and the lists that give them.
 
 use super::random_numbers::Random;
-use crate::model::Name;
+use crate::model::{Lists, Name, MOST_ADDRESS};
+
+/// So many distinct addresses, 31 at the most, in an order of chance.
+pub fn addresses(count: usize, random: &mut Random) -> Vec<u8> {
+    let mut addresses: Vec<u8> = (0..=MOST_ADDRESS).collect();
+    for place in 0..addresses.len() {
+        let other = place + random.below(addresses.len() - place);
+        addresses.swap(place, other);
+    }
+    addresses.truncate(count);
+    addresses
+}
 
 /// Few secondaries, so that parties at different primaries often have the same.
 fn secondary(random: &mut Random) -> u8 {
@@ -29,7 +40,7 @@ pub fn mixed(count: usize, random: &mut Random) -> Vec<Name> {
 }
 
 /// One of the names changed, so that it is mostly out of range or beside one that it can't be with.
-pub fn spoil(names: &mut [Name], random: &mut Random) {
+fn spoil(names: &mut [Name], random: &mut Random) {
     let (place, other) = (random.below(names.len()), random.below(names.len()));
     let other = names[other];
     let name = &mut names[place];
@@ -43,4 +54,41 @@ pub fn spoil(names: &mut [Name], random: &mut Random) {
         6 => *name = Name::plain(other.primary),
         _ => *name = Name::extended(other.primary, secondary(random)),
     }
+}
+
+/// Lists for a rack of both sorts, now and then of addresses alone.
+pub fn lists(count: usize, random: &mut Random) -> Lists {
+    if random.per_mille(150) {
+        Lists::plain(&addresses(count, random))
+    } else {
+        Lists::of(&mixed(count, random))
+    }
+}
+
+/// Lists of which mostly no bus can be built, for a name in them or for the length of the second.
+pub fn spoiled(count: usize, random: &mut Random) -> Lists {
+    if count == 0 || random.per_mille(600) {
+        return of_two_lengths(count, random);
+    }
+    let mut names = mixed(count, random);
+    spoil(&mut names, random);
+    Lists::of(&names)
+}
+
+/// The second list shorter or longer than the first. Mostly no primary is shared, so that nothing else
+/// is wrong with them.
+fn of_two_lengths(count: usize, random: &mut Random) -> Lists {
+    let mut lists = lists(count, random);
+    if random.per_mille(700) {
+        lists.addresses = addresses(count, random);
+    }
+    let given = match random.below(8) {
+        0 => 0,
+        1..=2 => random.below(count.max(1)),
+        3..=4 => count.saturating_sub(1),
+        _ => count + 1 + random.below(3),
+    };
+    let more = random.pick(&[None, Some(12), Some(31)]);
+    lists.secondaries.resize(given, more);
+    lists
 }

@@ -2,7 +2,9 @@
 
 use crate::compare::subject::{like_lines_by, try_run_by, Subject};
 use crate::model::script::{self, Call};
-use crate::model::{Answer, Bus, Drivers, Event, Name, Refusal, Turns, Waiting, MOST_PARTIES};
+use crate::model::{
+    Answer, Bus, Drivers, Event, Lists, Name, Refusal, Turns, Waiting, MOST_PARTIES,
+};
 
 /// A run. The number is the machine's to keep between runs, 0 at the start.
 pub type RunFault = fn(&mut Bus, u16, &mut usize) -> Turns;
@@ -136,8 +138,8 @@ impl Subject for WrongRun {
         self.bus.build(addresses, system)
     }
 
-    fn build_extended(&mut self, names: &[Name], system: u8) -> Answer {
-        self.bus.build_extended(names, system)
+    fn build_extended(&mut self, lists: &Lists, system: u8) -> Answer {
+        self.bus.build_extended(lists, system)
     }
 
     fn name(&self, party: u8) -> Option<Name> {

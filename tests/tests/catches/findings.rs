@@ -32,9 +32,9 @@ pub fn ledger_says(fault: &str, list: &[u8]) -> Option<&'static str> {
 fn call_of(machine: &mut Wrong, piece: &Piece) -> Option<(Record, Answer)> {
     match piece {
         Piece::Record(record) => Some((*record, machine.record(*record))),
-        Piece::Build(names, system) => {
-            let answer = machine.build_extended(names, *system);
-            Some((pieces::build_of_named(*system), answer))
+        Piece::Build(lists, system) => {
+            let answer = machine.build_extended(lists, *system);
+            Some((pieces::build_of_lists(*system), answer))
         }
         _ => None,
     }

@@ -1,5 +1,6 @@
 //! The comparison and the ledgers must catch wrong machines, and be quiet about the right one.
 
+mod any_memory;
 mod drivers;
 mod findings;
 mod machine;

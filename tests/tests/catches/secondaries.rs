@@ -3,16 +3,20 @@
 use crate::findings::{first_finding, ledger_says};
 use meskvorn_tests::compare::subject::ModelSubject;
 use meskvorn_tests::compare::{builds, Comparison, Difference};
-use meskvorn_tests::ledger::tally::Marks;
+use meskvorn_tests::ledger::tally::{Lengths, Marks};
 use meskvorn_tests::lists::composer::Composer;
 use meskvorn_tests::lists::hex::records;
 use meskvorn_tests::lists::pieces;
 use meskvorn_tests::lists::tables;
 use meskvorn_tests::model::script::{Record, CLEAR, RECORD, RESET, STANDBY, TAKE, WRITE};
-use meskvorn_tests::model::{Answer, Bus, Event, Name};
-use meskvorn_tests::wrong::{Wrong, BUILD_FAULTS, SECONDARY_FAULTS};
+use meskvorn_tests::model::{Answer, Bus, Event, Lists, Name};
+use meskvorn_tests::wrong::{BuildFault, Wrong, LENGTH_FAULTS, NAME_FAULTS, SECONDARY_FAULTS};
 
 const RACK: [Name; 3] = [Name::plain(1), Name::extended(2, 12), Name::extended(2, 13)];
+
+fn build_of(names: &[Name]) -> Vec<Record> {
+    pieces::build(&Lists::of(names), 0)
+}
 
 /// Party 0 is active and has sent these commands.
 fn after(commands: &[u8]) -> Composer {
@@ -46,9 +50,24 @@ fn tables_of_heard_bytes_catch_every_fault_of_secondaries() {
 
 #[test]
 fn builds_catch_every_wrong_build() {
-    for (name, build) in BUILD_FAULTS {
-        let found = builds::run(&mut Wrong::building(*build), 5);
+    let of_names = NAME_FAULTS.iter();
+    let of_names = of_names.map(|(name, build)| (name, BuildFault::OfNames(*build)));
+    let of_lengths = LENGTH_FAULTS.iter();
+    let of_lengths = of_lengths.map(|(name, build)| (name, BuildFault::OfLengths(*build)));
+    for (name, build) in of_names.chain(of_lengths) {
+        let found = builds::run(&mut Wrong::building(build), 5);
         assert!(found.is_err(), "not caught: {name}");
+    }
+}
+
+#[test]
+fn guided_lists_catch_wrong_lengths_by_a_build_and_what_shows_it() {
+    for (name, build) in LENGTH_FAULTS {
+        let mut machine = Wrong::building(BuildFault::OfLengths(*build));
+        let finding = first_finding(&mut machine, 300_000);
+        let finding = finding.unwrap_or_else(|| panic!("not caught: {name}"));
+        let pieces = finding.list.len() / RECORD;
+        assert!(pieces <= 6, "{name}: {pieces} pieces");
     }
 }
 
@@ -61,11 +80,11 @@ fn names_forgotten(bus: &mut Bus, _: &Bus, _: Record, _: &mut Answer) {
 #[test]
 fn a_wrong_name_is_found() {
     let mut machine = Wrong::new(names_forgotten);
-    let list = pieces::build(&RACK, 0).concat();
+    let list = build_of(&RACK).concat();
     let finding = Comparison::new(&mut machine).list(&list).unwrap_err();
     assert!(matches!(finding.difference, Difference::Name { .. }));
-    // One party and its build are enough to show it.
-    assert_eq!(finding.list.len(), 2 * RECORD);
+    // An address, a secondary and the build are enough to show it.
+    assert_eq!(finding.list.len(), 3 * RECORD);
 }
 
 /// Both parties at primary 2 are left talking, and each puts its byte up.
@@ -130,19 +149,44 @@ fn what_never_came_is_told() {
 }
 
 #[test]
-fn a_build_with_names_is_no_script() {
-    let build = pieces::build(&RACK, 0).concat();
+fn lengths_of_lists_are_counted() {
+    let lists = |addresses: &[u8], secondaries: &[Option<u8>]| Lists {
+        addresses: addresses.to_vec(),
+        secondaries: secondaries.to_vec(),
+    };
+    let mut builds = Vec::new();
+    for (addresses, secondaries) in [
+        (&[5, 6][..], &[][..]),
+        (&[5, 5], &[]),
+        (&[5, 5], &[Some(1), Some(2)]),
+        (&[5, 5], &[Some(1), Some(1)]),
+        (&[5, 6], &[Some(1)]),
+        (&[5, 6], &[Some(1), None, Some(31)]),
+        // Refused for more than their lengths.
+        (&[5, 5], &[Some(1)]),
+        (&[5, 31], &[Some(1), None, None]),
+    ] {
+        builds.extend(pieces::build(&lists(addresses, secondaries), 0));
+    }
+    let mut subject = ModelSubject::default();
+    let mut comparison = Comparison::new(&mut subject);
+    comparison.list(&builds.concat()).unwrap();
+    assert_eq!(comparison.tally.lengths.counts, [1; 6]);
+    let missing = comparison.tally.missing();
+    assert!(Lengths::WORDS.iter().all(|word| missing.contains(word)));
+}
+
+#[test]
+fn a_build_from_lists_is_no_script() {
+    let build = build_of(&RACK).concat();
     assert_eq!(pieces::as_script(&build), None);
     let step = records("01000000").concat();
     assert_eq!(pieces::as_script(&[build, step].concat()), None);
-    assert_eq!(
-        pieces::bus_after(&pieces::build(&RACK, 0).concat()).count,
-        3
-    );
-    // Names reach no further than the build after them.
-    let twice = [pieces::build(&RACK, 0), pieces::build(&RACK[..1], 0)].concat();
+    assert_eq!(pieces::bus_after(&build_of(&RACK).concat()).count, 3);
+    // Lists reach no further than the build after them.
+    let twice = [build_of(&RACK), build_of(&RACK[..1])].concat();
     assert_eq!(pieces::bus_after(&twice.concat()).count, 1);
-    let parted = [&pieces::build(&RACK, 0)[..3], &records("0c000000")].concat();
-    let parted = [&parted[..], &pieces::build(&[], 0)].concat();
+    let parted = [&build_of(&RACK)[..6], &records("0c000000")].concat();
+    let parted = [&parted[..], &build_of(&[])].concat();
     assert_eq!(pieces::bus_after(&parted.concat()).count, 0);
 }

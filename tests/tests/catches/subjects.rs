@@ -5,7 +5,7 @@ use meskvorn_tests::compare::subject::{ModelSubject, Subject};
 use meskvorn_tests::compare::{builds, Comparison, Difference};
 use meskvorn_tests::lists::hex::records;
 use meskvorn_tests::model::script::{Call, LINES, RECORD};
-use meskvorn_tests::model::{Answer, Drivers, Name, Turns};
+use meskvorn_tests::model::{Answer, Drivers, Lists, Name, Turns};
 
 /// Agrees record by record and differs in the text alone.
 struct WrongText(ModelSubject);
@@ -21,8 +21,8 @@ impl Subject for WrongText {
     fn build(&mut self, addresses: &[u8], system: u8) -> Answer {
         self.0.build(addresses, system)
     }
-    fn build_extended(&mut self, names: &[Name], system: u8) -> Answer {
-        self.0.build_extended(names, system)
+    fn build_extended(&mut self, lists: &Lists, system: u8) -> Answer {
+        self.0.build_extended(lists, system)
     }
     fn name(&self, party: u8) -> Option<Name> {
         self.0.name(party)
@@ -76,8 +76,8 @@ impl Subject for WrongByNumber {
         let (addresses, system) = (self.build)(addresses, system);
         self.model.build(&addresses, system)
     }
-    fn build_extended(&mut self, names: &[Name], system: u8) -> Answer {
-        self.model.build_extended(names, system)
+    fn build_extended(&mut self, lists: &Lists, system: u8) -> Answer {
+        self.model.build_extended(lists, system)
     }
     fn name(&self, party: u8) -> Option<Name> {
         self.model.name(party)

@@ -202,5 +202,5 @@ fn numbers_and_words_keep_their_places() {
         assert_eq!(event.has_byte(), number > 1);
     }
     assert_eq!(Event::Noacc.word(), "noacc");
-    assert_eq!(Refusal::WORDS[Refusal::Full as usize], "FULL");
+    assert_eq!(Refusal::Full.word(), "FULL");
 }

@@ -4,7 +4,7 @@ use meskvorn_tests::lists::composer::Composer;
 use meskvorn_tests::model::script::{
     CLEAR, LINES, LISTEN, POLL, READ, RESET, STANDBY, TAKE, TALK, WRITE,
 };
-use meskvorn_tests::model::{Answer, Bus, Event, Mark, Name, Refusal};
+use meskvorn_tests::model::{Answer, Bus, Event, Lists, Mark, Name, Refusal};
 
 const RACK: [Name; 4] = [
     Name::plain(1),
@@ -230,12 +230,25 @@ fn an_extended_talker_is_polled() {
     assert_eq!(bus.call(READ, 0, 0, 0), read);
 }
 
-fn built(names: &[Name]) -> bool {
-    let mut bus = Bus::new();
-    let answer = bus.build_extended(names, 0);
+/// A refused build leaves the bus of no parties.
+fn built_from(addresses: &[u8], secondaries: &[Option<u8>]) -> bool {
+    let mut bus = after(&[0x42]).bus;
+    let lists = Lists {
+        addresses: addresses.to_vec(),
+        secondaries: secondaries.to_vec(),
+    };
+    let answer = bus.build_extended(&lists, 0);
     let refused = Answer::refused(Refusal::BadBuild);
     assert_eq!(bus == Bus::new(), answer == refused);
     answer == Answer::NOTHING
+}
+
+fn built(names: &[Name]) -> bool {
+    let Lists {
+        addresses,
+        secondaries,
+    } = Lists::of(names);
+    built_from(&addresses, &secondaries)
 }
 
 #[test]
@@ -257,6 +270,22 @@ fn parties_that_go_beside_each_other() {
         &(0..16).map(|own| extended(7, own)).collect::<Vec<_>>()
     ));
     assert!(!built(&[]));
+}
+
+#[test]
+fn a_list_of_secondaries_is_empty_or_as_long_as_that_of_the_addresses() {
+    let given = [Some(1), None, Some(3), Some(4)];
+    assert!(built_from(&[5, 6, 7], &[]));
+    assert!(!built_from(&[5, 6, 7], &given[..1]));
+    assert!(!built_from(&[5, 6, 7], &given[..2]));
+    assert!(built_from(&[5, 6, 7], &given[..3]));
+    assert!(!built_from(&[5, 6, 7], &given));
+    // Entries that say none are entries.
+    assert!(!built_from(&[5, 6, 7], &[None; 2]) && !built_from(&[5, 6, 7], &[None; 4]));
+    assert!(built_from(&[5, 6, 7], &[None; 3]));
+    assert!(!built_from(&[5], &[None; 2]) && !built_from(&[], &[None]));
+    // Without secondaries no primary is shared.
+    assert!(built_from(&[5, 5], &given[2..]) && !built_from(&[5, 5], &[]));
 }
 
 #[test]

@@ -1,0 +1,188 @@
+//! Calls and runs on memory of any content, be it such as no build gives: what is refused leaves every
+//! byte as it was.
+
+use meskvorn::Bus;
+
+use super::memory::{bus_in, Rows, ROW};
+use super::product::{self, Product};
+use super::{subject, words};
+use crate::lists::guided::Guided;
+use crate::lists::random_numbers::Random;
+use crate::model::script::{Call, LAST_OPERATION};
+use crate::model::Refusal;
+
+const SAMPLES: usize = 3000;
+const CONTENTS: usize = 200_000;
+const CALLS_EACH: usize = 8;
+
+/// Fewer of a refusal would say little.
+const LEAST: u64 = 100;
+
+/// The refusals that a call can meet, and that it is accepted.
+const OF_CALLS: [Refusal; 9] = [
+    Refusal::Accepted,
+    Refusal::NoParty,
+    Refusal::BadValue,
+    Refusal::Role,
+    Refusal::Attention,
+    Refusal::Talker,
+    Refusal::Standing,
+    Refusal::Full,
+    Refusal::Empty,
+];
+
+/// A bus in memory, whatever that holds.
+pub trait InMemory: Clone + PartialEq {
+    fn of(rows: Rows) -> Self;
+    fn call(&mut self, call: Call) -> Refusal;
+    fn give_turns(&mut self, turns: u16) -> Refusal;
+}
+
+impl InMemory for Bus {
+    fn of(rows: Rows) -> Bus {
+        bus_in(rows)
+    }
+
+    fn call(&mut self, call: Call) -> Refusal {
+        Refusal::ALL[product::call(self, call).refusal as usize]
+    }
+
+    fn give_turns(&mut self, turns: u16) -> Refusal {
+        Refusal::ALL[Bus::give_turns(self, turns).refusal as usize]
+    }
+}
+
+/// How often each refusal came, on calls and on runs.
+#[derive(Default, Debug)]
+pub struct Met {
+    pub calls: [u64; 11],
+    pub runs: [u64; 11],
+}
+
+impl Met {
+    /// What did not come often enough.
+    pub fn missing(&self) -> Vec<String> {
+        let few = |counts: &[u64; 11], refusal: Refusal| counts[refusal as usize] < LEAST;
+        let calls = OF_CALLS.into_iter().filter(|own| few(&self.calls, *own));
+        let calls = calls.map(|own| format!("calls {} on any memory", own.word()));
+        let runs = [Refusal::Accepted, Refusal::NoParty].into_iter();
+        let runs = runs.filter(|own| few(&self.runs, *own));
+        calls
+            .chain(runs.map(|own| format!("runs {} on any memory", own.word())))
+            .collect()
+    }
+
+    pub fn print(&self) {
+        println!("on memory of any content, calls and runs");
+        for (refusal, calls) in self.calls.iter().enumerate() {
+            let (word, runs) = (Refusal::WORDS[refusal], self.runs[refusal]);
+            println!("{refusal:>3} {word:<10} {calls:>12} {runs:>12}");
+        }
+    }
+}
+
+fn bytes_below(bound: usize, random: &mut Random) -> Rows {
+    [[0; ROW]; 16].map(|row| row.map(|_: u8| random.below(bound) as u8))
+}
+
+/// Any bytes, small ones, zeros or a bus that calls led to; then often some bytes changed.
+fn content(samples: &[Rows], random: &mut Random) -> Rows {
+    let small = 2 + random.below(30);
+    let mut rows = match random.below(6) {
+        0 => bytes_below(256, random),
+        1 => bytes_below(small, random),
+        2 => [[0; ROW]; 16],
+        _ => random.pick(samples),
+    };
+    for _ in 0..random.below(6) {
+        rows[random.below(16)][random.below(ROW)] = random.byte();
+    }
+    rows
+}
+
+/// Mostly an operation with arguments that it takes, so that the bus decides.
+fn any_call(random: &mut Random) -> Call {
+    let known = 1 + random.below(usize::from(LAST_OPERATION)) as u8;
+    let (party, switch) = (random.below(4) as u8, random.below(2) as u8);
+    if random.per_mille(750) {
+        return [known, party, switch, switch];
+    }
+    let any = random.byte();
+    let operation = random.pick(&[known, known, known, any]);
+    [
+        operation,
+        random.field(16),
+        random.field(2),
+        random.field(2),
+    ]
+}
+
+/// An error if the call is refused, and has changed the memory.
+fn try_on<B: InMemory>(
+    before: &B,
+    counts: &mut [u64; 11],
+    call: impl FnOnce(&mut B) -> Refusal,
+) -> Result<(), Refusal> {
+    let mut bus = before.clone();
+    let refusal = call(&mut bus);
+    counts[refusal as usize] += 1;
+    if refusal != Refusal::Accepted && bus != *before {
+        return Err(refusal);
+    }
+    Ok(())
+}
+
+/// The error tells the memory, and the call that was refused and has changed it.
+pub fn run<B: InMemory>(samples: &[Rows], seed: u64) -> Result<Met, String> {
+    let mut random = Random::new(seed);
+    let mut met = Met::default();
+    for _ in 0..CONTENTS {
+        let rows = content(samples, &mut random);
+        let bus = B::of(rows);
+        let story = |what: String, refusal: Refusal| {
+            let memory = words::hex(&rows.concat());
+            format!(
+                "{what} is refused with {}, and changes {memory}",
+                refusal.word()
+            )
+        };
+        for _ in 0..CALLS_EACH {
+            let call = any_call(&mut random);
+            let tried = try_on(&bus, &mut met.calls, |bus| bus.call(call));
+            tried.map_err(|refusal| story(words::call(call), refusal))?;
+        }
+        let turns = random.below(40) as u16;
+        let tried = try_on(&bus, &mut met.runs, |bus| bus.give_turns(turns));
+        tried.map_err(|refusal| story(format!("a run of {turns} turns"), refusal))?;
+    }
+    Ok(met)
+}
+
+/// The memory of buses that guided lists lead to.
+fn samples(seed: u64) -> Vec<Rows> {
+    let mut guided = Guided::new(seed);
+    let mut product = Product::default();
+    let rows = (0..SAMPLES).map(|_| {
+        subject::enter_list(&mut product, guided.list());
+        product.rows()
+    });
+    rows.collect()
+}
+
+/// The library. True if what it refused left every byte, and every refusal came.
+pub fn run_library(seed: u64) -> bool {
+    match run::<Bus>(&samples(seed), seed) {
+        Err(story) => {
+            println!("DIFFERENCE {story}");
+            false
+        }
+        Ok(met) => {
+            met.print();
+            let missing = met.missing();
+            if !missing.is_empty() {
+                println!("NEVER CAME {}", missing.join(", "));
+            }
+            missing.is_empty()
+        }
+    }
+}
