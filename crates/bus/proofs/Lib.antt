@@ -40,6 +40,8 @@
 -- Built, Theorem, Reached. An accepted build gives the invariant, so `delivery` holds from every build. Reached has the
 -- facts of every reachable bus that later work cites.
 --
+-- Looking. How examples and counterexamples look at each call of a list. The theorem does without it.
+--
 -- Driving. The ones of a mask are as many as the parties that drive its line. crates/driver_laws has the laws about it.
 --
 -- The folders hold the proofs of the functions in src/, each under its own name.
@@ -61,6 +63,7 @@ pub mod SourceStep
 pub mod EachCall
 pub mod Ledger
 pub mod Built
+pub mod Looking
 pub mod Theorem
 pub mod Reached
 pub mod Seats

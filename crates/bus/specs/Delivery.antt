@@ -1,4 +1,5 @@
--- Demand 3, one statement over whole lists of calls: one driver of DAV and of ATN, delivery, totals.
+-- Demand 3, one statement over whole lists of calls: one driver of DAV and of ATN, delivery, totals. What is quoted is
+-- the demand itself, and document 01's words for it.
 -- Calls of a list are counted from 0. `i` is a call that puts a byte up, `k` and `l` calls that come later, `p` and `q`
 -- parties.
 -- Assumes nothing.

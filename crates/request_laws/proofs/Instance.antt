@@ -3,10 +3,9 @@
 use mathlib.Core.Path.{_≡_, refl, ap}
 use mathlib.Core.Bool.{Bool, true, false, not, _&&_, _||_}
 use mathlib.Core.Logic.{_⊎_, inl, inr}
-use Prim.Native.Nat.{ℕ, zero, suc, _+_, _-_, _<_, _≤_}
+use Prim.Native.Nat.{ℕ, _<_, _≤_}
 use native.Mathlib.Omega.{arith}
 use lib.Dec.{eqb}
-use borrow.Author.Tests.{eqb-true, eqb-false}
 use Rattle.message.specs.Meaning.{meaningOf, sevenBits, named}
 use Rattle.service.specs.Service.{rsv}
 use Rattle.role.proofs.Logic.{no}
@@ -15,37 +14,16 @@ use Rattle.bus.specs.Types.{Call}
 use Rattle.bus.specs.Types.call-of
 use Rattle.bus.specs.Types.act-of
 use Rattle.bus.specs.Delivery.{moment, answerAt}
+use Rattle.bus.proofs.Looking.{holds, of-false}
 use Rattle.request_laws.specs.Requests.{requestAt, polled, Poll, AsksAt, Left, NoneBetween}
 use Rattle.request_laws.specs.Examples.{bus, calls, Speaks}
 use Rattle.request_laws.proofs.Asked.{isStat}
-
--- what was looked at from a on, n times
-abbrev looked : ℕ → ℕ → (ℕ → Bool) → Bool
-looked a zero f = true
-looked a (suc n) f = f a && looked (suc a) n f
-
-holds : (a n : ℕ) (f : ℕ → Bool) → looked a n f ≡ true → (j : ℕ) → a ≤ j → j < a + n → f j ≡ true
-holds a zero f h j l m = absurd (none l m)
-  where
-    none : a ≤ j → j < a + 0 → ⊥
-    none l m = omega arith
-holds a (suc n) f h j l m = go (λ k. holds (suc a) n f k j) (f a) refl h (eqb j a) refl
-  where
-    go : (looked (suc a) n f ≡ true → suc a ≤ j → j < suc a + n → f j ≡ true) → (x : Bool) → f a ≡ x
-        → (x && looked (suc a) n f) ≡ true → (y : Bool) → eqb j a ≡ y → f j ≡ true
-    go R true e k true g = rw (eqb-true j a g) e
-    go R true e k false g = let ne : (j ≡ a → ⊥) = eqb-false j a g in R k (omega arith) (omega arith)
-    go R false e k y g = no (cc)
 
 -- a call that switches the bit of party 1 or resets it
 abbrev touches : Call → Bool
 touches (call-of.Of p a) = (eqb (actNumber a) 10 || eqb (actNumber a) 13) && eqb (p .0) 1
 touches call-of.Lines = false
 touches call-of.Drivers = false
-
-of-false : (x : Bool) → not x ≡ true → x ≡ true → ⊥
-of-false true h e = no (cc)
-of-false false h e = no (cc)
 
 asks : AsksAt bus calls 1 1
 unfolding meaningOf sevenBits named
