@@ -26,7 +26,7 @@ use Rattle.bus.specs.Types.call-of
 use Rattle.runner.specs.Waiting.{TieOrder, byPlace, Orders, inOrder}
 use Rattle.runner.specs.Runner.{stepOf, steps, turnsOf}
 use Rattle.bound_laws.specs.Bound.{Offered, EndsWithin, EndsSoon, Bound, BoundByPlace}
-use Rattle.runner.proofs.Lists.{led-inv}
+use Rattle.runner.proofs.Led.{led-inv}
 use Rattle.runner.proofs.Members.{member}
 use Rattle.runner.proofs.Queue.{rota}
 use Rattle.runner.proofs.Rota.{rota-round}

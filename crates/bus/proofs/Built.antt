@@ -1,36 +1,31 @@
 -- A bus just built: it has settled, and it keeps the invariant.
 -- Assumes nothing.
 use mathlib.Core.Path.{_≡_, refl, sym, ap, _∙_}
-use mathlib.Core.Bool.{Bool, true, false, not, _||_}
+use mathlib.Core.Bool.{Bool, true, false}
 use mathlib.Core.List.{List, [], _∷_}
 use Prim.Native.Nat.{ℕ, zero, suc, _≤_, _<_}
 use native.Mathlib.Omega.{arith}
 use native.Mathlib.Nat.{not-suc-le-zero, le-of-suc-le-suc}
-use lib.Dec.{ltb, eqb}
+use lib.Dec.{ltb}
 use lib.ListN.{length, getD}
 use borrow.Author.Tests.{ltb-true, ltb-false}
-use Rattle.message.specs.Meaning.{address}
-use Rattle.names.specs.Names.{plain, clashes}
+use Rattle.names.specs.Names.{clashes}
 use Rattle.party.specs.Parts.{idle, heldBytes, builtParty}
 use Rattle.offer.specs.Offer.{isFull}
 use Rattle.party.specs.Driving.{isActive}
 use Rattle.party.specs.Settling.{settled}
 use Rattle.role.proofs.Logic.{no, test}
-use Rattle.names.proofs.Clashes.{clash-sym}
 use Rattle.role.proofs.Roles.{marked, unmarked}
 use Rattle.party.proofs.Settled.{newborn-still}
 use Rattle.parties.specs.Places.{at, each}
 use Rattle.parties.proofs.Places.{some-true, total-zero}
 use Rattle.bus.specs.Types.{Place, Name, Party, Strs, Aids, Acrs, Nothing, Said}
 use Rattle.bus.specs.Record.{here, built}
-use Rattle.addresses.specs.Addresses.{placed, anyOver30, clashesWith, twoClash, badBuild}
+use Rattle.addresses.specs.Addresses.{placed, badBuild}
+use Rattle.addresses.proofs.Unrefused.{beyond, fits, apart}
 use Rattle.bus.specs.Settling.{settleBus}
 use Rattle.bus.specs.Delivery.{held}
 use Rattle.bus.proofs.Invariant.{busy, Pre, Inv, atnOf}
-
--- what is found past the end of a list of names
-abbrev beyond : Name
-beyond = plain (address 0)
 
 -- settling a bus just built leaves it as it is
 placed-still : (n m : ℕ) (atn : Bool) (xs : List Name) → each n (settled atn) (placed m xs) ≡ placed m xs
@@ -63,46 +58,14 @@ placed-past (suc n) [] (suc j) h = placed-past n [] j (omega arith)
 placed-past (suc n) (a ∷ xs) zero h = absurd (not-suc-le-zero h)
 placed-past (suc n) (a ∷ xs) (suc j) h = placed-past n xs j (le-of-suc-le-suc h)
 
--- the names
-or-false : (x y : Bool) → (x || y) ≡ false → (x ≡ false) × (y ≡ false)
-or-false true y e = no (cc)
-or-false false y e = (refl, e)
-
-none-of : (a b c d e : Bool) → (a || b || c || d || e) ≡ false → (b ≡ false) × (d ≡ false)
-none-of a b c d e h = let x = or-false (a || b || c) d (or-false (a || b || c || d) e h .0) in
-    (or-false a b (or-false (a || b) c (x .0) .0) .1, x .1)
-
-absent : (n : Name) (xs : List Name) → clashesWith n xs ≡ false → (j : ℕ) → j < length xs
-    → clashes n (getD xs j beyond) ≡ true → ⊥
-absent n [] e j h f = not-suc-le-zero h
-absent n (x ∷ xs) e zero h f = let z = or-false (clashes n x) (clashesWith n xs) e .0 in no (cc)
-absent n (x ∷ xs) e (suc j) h f = absent n xs (or-false (clashes n x) (clashesWith n xs) e .1) j (le-of-suc-le-suc h) f
-
-distinct : (xs : List Name) → twoClash xs ≡ false → (i j : ℕ) → i < length xs → j < length xs
-    → clashes (getD xs i beyond) (getD xs j beyond) ≡ true → i ≡ j
-distinct [] e i j h k f = absurd (not-suc-le-zero h)
-distinct (x ∷ xs) e zero zero h k f = refl
-distinct (x ∷ xs) e zero (suc j) h k f = absurd
-    (absent x xs (or-false (clashesWith x xs) (twoClash xs) e .0) j (le-of-suc-le-suc k) f)
-distinct (x ∷ xs) e (suc i) zero h k f = absurd
-    (absent x xs (or-false (clashesWith x xs) (twoClash xs) e .0) i (le-of-suc-le-suc h)
-    (clash-sym (getD xs i beyond) x f))
-distinct (x ∷ xs) e (suc i) (suc j) h k f = ap suc
-    (distinct xs (or-false (clashesWith x xs) (twoClash xs) e .1) i j (le-of-suc-le-suc h) (le-of-suc-le-suc k) f)
-
 -- The bus that an accepted build gives.
 module _ (xs : List Name) (s : Place) (ok : badBuild xs s ≡ false) where
-  -- "over 15 parties", two of one name: it is neither
-  neither : (ltb 15 (length xs) ≡ false) × (twoClash xs ≡ false)
-  neither = none-of (eqb (length xs) 0) (ltb 15 (length xs)) (anyOver30 xs) (twoClash xs) (not (ltb (s .0) (length xs)))
-      ok
-
-  pub fits : length xs ≤ 15
-  fits = ltb-false 15 (length xs) (neither .0)
+  few : length xs ≤ 15
+  few = fits xs s ok
 
   -- every place holds a party just built
   new : (j : ℕ) → (n : Name) × (here (built xs s) j ≡ builtParty n)
-  new j = test (ltb j (length xs)) (λ h. (getD xs j beyond, placed-at 15 xs j (ltb-true j (length xs) h) fits))
+  new j = test (ltb j (length xs)) (λ h. (getD xs j beyond, placed-at 15 xs j (ltb-true j (length xs) h) few))
       (λ h. (beyond, placed-past 15 xs j (ltb-false j (length xs) h)))
 
   -- what holds of every party just built holds of every party
@@ -119,9 +82,9 @@ module _ (xs : List Name) (s : Place) (ok : badBuild xs s ≡ false) where
     atnIf = all-new (λ p. isActive p ≡ true → atnOf (built xs s) ≡ true) (λ a h. no (cc));
     charge = λ i j. all-new (λ p. busy (p .control) ≡ true → busy (here (built xs s) j .control) ≡ true → i ≡ j)
         (λ a h. no (cc)) i;
-    addr = λ i j h k e. distinct xs (neither .1) i j h k
-        (sym (ap (λ (p : Party). clashes (p .role .name) (getD xs j beyond)) (placed-at 15 xs i h fits))
-        ∙ sym (ap (λ (p : Party). clashes (here (built xs s) i .role .name) (p .role .name)) (placed-at 15 xs j k fits))
+    addr = λ i j h k e. apart xs s ok i j h k
+        (sym (ap (λ (p : Party). clashes (p .role .name) (getD xs j beyond)) (placed-at 15 xs i h few))
+        ∙ sym (ap (λ (p : Party). clashes (here (built xs s) i .role .name) (p .role .name)) (placed-at 15 xs j k few))
         ∙ e);
     sends = λ j. all-new (λ p. p .source ≡ Strs → false ≡ true) (λ a h. no (cc)) j;
     sent = λ j h. no (cc);
@@ -145,7 +108,7 @@ module _ (xs : List Name) (s : Place) (ok : badBuild xs s ≡ false) where
   pub built-inv : Inv (built xs s)
   built-inv = record {
     size = placed-length 15 xs;
-    small = fits;
+    small = few;
     pre = fresh-pre;
     still = all-new (λ p. settled (atnOf (built xs s)) p ≡ p) (newborn-still (atnOf (built xs s)));
   }

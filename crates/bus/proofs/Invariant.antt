@@ -29,6 +29,7 @@ use Rattle.bus.specs.Types.{Awns, Kind, Command, Data, Status, Meaning, 
 use Rattle.bus.specs.Record.{here}
 use Rattle.effect.specs.Stands.{stands, hasEnd, ofCommand}
 use Rattle.bus.specs.Settling.{deserted, settleBus}
+use Rattle.bus.proofs.Looking.{not-true, not-false}
 
 -- in charge of the bus, now or once it takes control again
 abbrev pub busy : Control → Bool
@@ -242,14 +243,6 @@ module _ (n : ℕ) (ps : List Party) (l : n ≤ length ps) (tail : (j : ℕ) →
   pub seen-still : some n isActive ps ≡ t → Still (some n isActive (each n (settled t) ps)) (at (each n (settled t) ps))
   seen-still e = subst₂ (λ (x : Bool) (w : ℕ → Party). Still x w)
       (sym (some-each n isActive (settled t) ps (λ p. refl) ∙ e)) (sym as-seen) (λ j. settled-twice t (at ps j))
-
-pub not-false : (x : Bool) → not x ≡ false → x ≡ true
-not-false true e = refl
-not-false false e = no (cc)
-
-pub not-true : (x : Bool) → not x ≡ true → x ≡ false
-not-true true e = no (cc)
-not-true false e = refl
 
 -- settling makes the invariant of what a call keeps
 pub settle-inv : (b : Bus) (t : Bool) (s : Said) (ps : List Party) (st : Standing) → length ps ≡ 15 → b .count ≤ 15

@@ -29,3 +29,11 @@ holds a (suc n) f h j l m = go (λ k. holds (suc a) n f k j) (f a) refl h (eqb j
 pub of-false : (x : Bool) → not x ≡ true → x ≡ true → ⊥
 of-false true h e = no (cc)
 of-false false h e = no (cc)
+
+pub not-false : (x : Bool) → not x ≡ false → x ≡ true
+not-false true e = refl
+not-false false e = no (cc)
+
+pub not-true : (x : Bool) → not x ≡ true → x ≡ false
+not-true true e = no (cc)
+not-true false e = refl

@@ -32,7 +32,7 @@ use Rattle.bus.proofs.Invariant.{Inv, sentBy, atnOf, is-active, is-strs}
 use Rattle.bus.proofs.Theorem.{one-dav, one-atn}
 use Rattle.bus.proofs.Reached.{sender-is-source}
 use Rattle.bus.proofs.Driving as driving
-use Rattle.runner.proofs.Lists.{led-inv}
+use Rattle.runner.proofs.Led.{led-inv}
 use Rattle.driver_laws.specs.Laws.{isDriven, CountOfOnes, OnePerParty, FifteenBits, NeverRefused, LeavesAsLines}
 use Rattle.driver_laws.specs.Laws.{OnWhereDriven, ChangesNothing, OneDriver}
 

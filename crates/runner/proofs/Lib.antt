@@ -8,8 +8,8 @@
 -- and puts it last (`moved`): all others have waited for one turn more, so among them nothing changes. Turning the
 -- queue over and over is round robin, and equal waiting begins with the queue in the tie order.
 --
--- Lists, Counts, Giving. Lists in which runs stand for their steps, so that every bus there is keeps the invariant;
--- what the counts say; and how far the loop of the code has come.
+-- Lists, Led, Counts, Giving. Lists in which runs stand for their steps, so that every bus there is keeps the
+-- invariant; what the counts say; and how far the loop of the code has come.
 -- Assumes nothing.
 pub mod Examples
 pub mod Members
@@ -18,5 +18,6 @@ pub mod Queue
 pub mod Rota
 pub mod InOrder
 pub mod Lists
+pub mod Led
 pub mod Counts
 pub mod Giving

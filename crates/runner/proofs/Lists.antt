@@ -1,16 +1,13 @@
 -- Lists with runs in them: a run stands for its steps.
 -- Assumes nothing.
-use mathlib.Core.Path.{_≡_, refl, sym, ap, _∙_, subst}
+use mathlib.Core.Path.{_≡_, refl, sym, ap, _∙_}
 use mathlib.Core.List.{List, [], _∷_, _++_}
 use Prim.Native.Nat.{ℕ}
 use Rattle.bus.specs.declared.Bus.{Bus}
 use Rattle.bus.specs.Machine as m
-use Rattle.bus.proofs.Theorem.{delivery}
-use Rattle.bus.proofs.Invariant.{Inv}
-use Rattle.bus.proofs.Reached.{reached}
 use Rattle.bus.specs.Types.{Call}
 use Rattle.runner.specs.Runner.{stepOf, steps, turnsOf, giveTurns}
-use Rattle.runner.specs.Lists.{call, run, expanded, StandsForSteps, built, led, LedTo, DeliveryWithRuns}
+use Rattle.runner.specs.Lists.{call, run, expanded, StandsForSteps}
 
 pub run-append : (b : Bus) (cs ds : List Call) → m.run b (cs ++ ds) ≡ m.run (m.run b cs) ds
 run-append b [] ds = refl
@@ -26,11 +23,3 @@ stands-for-steps tie b (call c ∷ xs) = stands-for-steps tie (m.call b c .bus) 
 stands-for-steps tie b (run t ∷ xs) =
     let c = giveTurns (tie b) b t .bus in
     stands-for-steps tie c xs ∙ sym (run-append b (steps (turnsOf (tie b) b t)) (expanded tie c xs))
-
--- Every bus there is keeps the invariant.
-pub led-inv : (b : Bus) → LedTo b → Inv b
-led-inv _ (names, led {b} (built system ok) tie xs) =
-    subst Inv (sym (stands-for-steps tie b xs)) (reached names system ok (expanded tie b xs))
-
-pub delivery-with-runs : DeliveryWithRuns
-delivery-with-runs names b (built system ok) tie xs = delivery names system ok (expanded tie b xs)

@@ -36,7 +36,7 @@ use Rattle.bus.specs.Settling.{deserted, followed}
 use Rattle.bus.specs.Machine as m
 use Rattle.bus.proofs.Invariant.{Inv, busy, active-busy}
 use Rattle.bus.proofs.Reached as reached
-use Rattle.runner.proofs.Lists.{led-inv}
+use Rattle.runner.proofs.Led.{led-inv}
 use Rattle.state_laws.specs.States.{FewDropped, OneBroken, RefusedLeaves, NeverRecord}
 
 at-most-one : (x : Bool) → one x ≤ 1

@@ -19,7 +19,7 @@ use Rattle.bus.proofs.Summary.{none-ready}
 use Rattle.bus.proofs.Reached.{sender-in-strs, sender-is-source, status-if-polled, polled-if-status, end-on-data}
 use Rattle.bus.proofs.Reached.{source-not-sids, other-in-sids, one-source, never-both, settled-already}
 use Rattle.bus.proofs.Reached.{listener-takes-part, other-takes-no-part, ready-has-room}
-use Rattle.runner.proofs.Lists.{led-inv}
+use Rattle.runner.proofs.Led.{led-inv}
 use Rattle.state_laws.specs.States.{States, EveryState}
 
 -- who has talk on with ATN false is a source

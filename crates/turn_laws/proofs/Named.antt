@@ -34,7 +34,8 @@ use Rattle.bus.specs.Types.ruling
 use Rattle.bus.specs.Types.after
 use Rattle.bus.specs.Types.call-of
 use Rattle.bus.specs.Types.act-of
-use Rattle.bus.proofs.Built.{placed-at, fits}
+use Rattle.addresses.proofs.Unrefused.{fits}
+use Rattle.bus.proofs.Built.{placed-at}
 use Rattle.runner.specs.Lists.{expanded, built, led}
 use Rattle.runner.proofs.Lists.{stands-for-steps}
 use Rattle.turn_laws.specs.Turns.{nameAt, Named}

@@ -33,7 +33,7 @@ use Rattle.bus.specs.Types.{View}
 use Rattle.bus.specs.Types.ev
 use Rattle.bus.specs.Types.after
 use Rattle.runner.specs.Runner.{stepOf, steps}
-use Rattle.runner.proofs.Lists.{led-inv}
+use Rattle.runner.proofs.Led.{led-inv}
 use Rattle.turn_laws.specs.Turns.{Alone, kept, Keeps, KeepsByte}
 use Rattle.turn_laws.proofs.Local.{local, touch-local, no-step, source-step, as-local, event-of}
 

@@ -41,7 +41,7 @@ use Rattle.bus.proofs.Accepting.{known, if-so}
 use Rattle.bus.proofs.Reached.{source-not-sids}
 use Rattle.bus.proofs.EachCall.{call-good, linked}
 use Rattle.runner.specs.Runner.{stepOf}
-use Rattle.runner.proofs.Lists.{led-inv}
+use Rattle.runner.proofs.Led.{led-inv}
 use Rattle.turn_laws.specs.Turns.{Alone, kept, OnOffer, Unattended, SaysAgain}
 use Rattle.turn_laws.proofs.Noacc.{says, turn, only}
 

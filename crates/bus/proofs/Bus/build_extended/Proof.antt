@@ -8,8 +8,8 @@ use lib.ListN.{length}
 use borrow.Author.Needs.{needs}
 use Rattle.addresses.specs.Addresses.{names}
 use Rattle.addresses.proofs.Scans.{names-length}
-use Rattle.bus.proofs.Invariant.{not-true, not-false}
-use Rattle.bus.proofs.Built.{fits}
+use Rattle.addresses.proofs.Unrefused.{fits}
+use Rattle.bus.proofs.Looking.{not-true, not-false}
 use Rattle.bus.proofs.Bus.build_extended.Statement.{statement}
 use Rattle.bus.proofs.Bus.build_extended.Tie as tie
 
