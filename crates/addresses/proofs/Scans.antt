@@ -15,7 +15,7 @@ use Rattle.names.specs.Names.{plain}
 use Rattle.party.specs.Parts.{builtParty}
 use Rattle.parties.proofs.Loops.{or-assoc}
 use Rattle.party.specs.declared.Party.{Party}
-use Rattle.addresses.specs.Addresses.{secondaryOf, names, placed}
+use Rattle.addresses.specs.Addresses.{secondaryGiven, names, placed}
 
 -- names from two lists: as many as there are addresses
 pub names-length : (xs ss : List ℕ) → length (names xs ss) ≡ length xs
@@ -39,7 +39,7 @@ name-plain (a ∷ xs) [] (suc i) d h l = name-plain xs [] i d (le-of-suc-le-suc 
 name-plain (a ∷ xs) (s ∷ ss) (suc i) d h l = name-plain xs ss i d (le-of-suc-le-suc h) (le-of-suc-le-suc l)
 
 pub name-both : (xs ss : List ℕ) (i : ℕ) (d : Name) → i < length xs → i < length ss
-    → getD (names xs ss) i d ≡ record { address = address (getD xs i 0); secondary = secondaryOf (getD ss i 0) }
+    → getD (names xs ss) i d ≡ record { address = address (getD xs i 0); secondary = secondaryGiven (getD ss i 0) }
 name-both [] ss i d h l = absurd (not-suc-le-zero h)
 name-both (a ∷ xs) [] i d h l = absurd (not-suc-le-zero l)
 name-both (a ∷ xs) (s ∷ ss) zero d h l = refl

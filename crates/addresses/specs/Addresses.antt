@@ -15,14 +15,14 @@ use Rattle.party.specs.declared.Party.{Party}
 use Rattle.party.specs.Parts.{idle, builtParty}
 
 -- A secondary as a host gives it: 255 says that there is none.
-abbrev pub secondaryOf : ℕ → Secondary
-secondaryOf s = cond (eqb s 255) Absent (Given (secondary s))
+abbrev pub secondaryGiven : ℕ → Secondary
+secondaryGiven s = cond (eqb s 255) Absent (Given (secondary s))
 
 -- The names that a list of addresses and one of secondaries give; where the second is empty nobody has a secondary.
 abbrev pub names : List ℕ → List ℕ → List Name
 names [] ss = []
 names (a ∷ xs) [] = plain (address a) ∷ names xs []
-names (a ∷ xs) (s ∷ ss) = record { address = address a; secondary = secondaryOf s } ∷ names xs ss
+names (a ∷ xs) (s ∷ ss) = record { address = address a; secondary = secondaryGiven s } ∷ names xs ss
 
 -- A list of secondaries is empty, or as long as the addresses (docs/DECISIONS.md).
 unfoldable pub goTogether : List ℕ → List ℕ → Bool

@@ -3,7 +3,7 @@ ghost use mathlib.Core.Path.{_≡_};
 ghost use lib.ListN.{getD, drop};
 ghost use Rattle.names.specs.Names.{plain};
 ghost use Rattle.message.specs.Meaning.{address};
-ghost use Rattle.addresses.specs.Addresses.{secondaryOf, names, goTogether};
+ghost use Rattle.addresses.specs.Addresses.{secondaryGiven, names, goTogether};
 ghost use Rattle.addresses.specs.Addresses.{anyOver30, clashesWith, twoClash, badBuild};
 use message::Address;
 use message::SecondaryAddress;
@@ -15,8 +15,8 @@ use party::Place;
 // What stands for no secondary in a list of them.
 pub const NO_SECONDARY: u8 = 255;
 
-fn secondary_of(s: u8) -> Secondary
-    ensures { λ r. ⌜ r ≡ secondaryOf s ⌝ }
+fn secondary_given(s: u8) -> Secondary
+    ensures { λ r. ⌜ r ≡ secondaryGiven s ⌝ }
 {
     if s == NO_SECONDARY {
         return Secondary::Absent;
@@ -40,7 +40,7 @@ pub fn name_at(addresses: &[u8], secondaries: &[u8], i: usize) -> Name
     }
     Name {
         address,
-        secondary: secondary_of(secondaries[i]),
+        secondary: secondary_given(secondaries[i]),
     }
 }
 

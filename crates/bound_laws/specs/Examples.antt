@@ -12,18 +12,18 @@ use Rattle.bus.specs.Types.act-of
 use Rattle.bus.specs.Rows.{write, listenOnly, talkOnly, read}
 use Rattle.runner.specs.Waiting.{byPlace}
 use Rattle.runner.specs.Runner.{steps, turnsOf}
-use Rattle.runner.specs.Lists.{Act, call, run}
+use Rattle.runner.specs.Lists.{Item, call, run}
 use Rattle.runner.specs.Examples.{after}
 use Rattle.bound_laws.specs.Bound.{Offered}
 
 -- Party 1 has taken a byte that was then broken off, and 41 waits: it has three turns to go before it is ready.
-abbrev pub slow : List Act
+abbrev pub slow : List Item
 slow =
     call (talkOnly 0 1) ∷ call (listenOnly 1 1) ∷ call (write 0 0x40 0) ∷ run 4
     ∷ call (talkOnly 0 0) ∷ call (read 1) ∷ call (talkOnly 0 1) ∷ call (write 0 0x41 1) ∷ []
 
 -- How many bytes end in the first t turns of a run.
-abbrev ended : List Act → ℕ → ℕ
+abbrev ended : List Item → ℕ → ℕ
 ended xs t = tally (λ x. one (isEnd (x .answer .event))) (history (after xs) (steps (turnsOf byPlace (after xs) t)))
 
 -- The bound's premises hold, n is 2, and the eleventh turn ends the byte.

@@ -23,8 +23,8 @@ pub record Report : Type 0 where
   pub dropped : ℕ
   pub broken : ℕ
 
-abbrev pub reported : Answer → Report
-reported a = record {
+abbrev pub reportOf : Answer → Report
+reportOf a = record {
   refusal = a .refusal;
   event = a .event;
   byte = a .byte;
@@ -41,10 +41,10 @@ pub record Run : Type 0 where
 
 abbrev pub answers : Bus → List (Call × Report) → List Report
 answers b [] = []
-answers b (c ∷ cs) = reported (call b (c .0)) ∷ answers (call b (c .0) .bus) cs
+answers b (c ∷ cs) = reportOf (call b (c .0)) ∷ answers (call b (c .0) .bus) cs
 
 abbrev pub outcome : Run → List Report
-outcome r = reported (buildExtended (r .names) (place (r .system))) ∷ answers
+outcome r = reportOf (buildExtended (r .names) (place (r .system))) ∷ answers
     (buildExtended (r .names) (place (r .system)) .bus) (r .calls)
 
 abbrev pub expected : Run → List Report

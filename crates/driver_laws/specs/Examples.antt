@@ -22,8 +22,8 @@ pub record Case : Type 0 where
 abbrev pub found : Case → Masks × Counts
 found c = let b = run (build (c .addresses) (place 0) .bus) (c .calls) in (masks b, counts b)
 
-abbrev pub told : Case → Masks × Counts
-told c = (c .masks, c .counts)
+abbrev pub stated : Case → Masks × Counts
+stated c = (c .masks, c .counts)
 
 -- Lines in the order ATN, DAV, NRFD, NDAC, EOI, SRQ.
 abbrev pub who : ℕ → ℕ → ℕ → ℕ → ℕ → ℕ → Masks
@@ -83,4 +83,4 @@ cases =
     ∷ []
 
 abbrev pub DriverExamples : Type 0
-DriverExamples = map found cases ≡ map told cases
+DriverExamples = map found cases ≡ map stated cases

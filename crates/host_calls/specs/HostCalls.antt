@@ -28,16 +28,16 @@ abbrev pub read : View → Outcome
 read v = readOut (v .party .input) (v .party)
 
 -- A call that writes of its party the request for service alone.
-abbrev pub asks : Request → Party → Outcome
-asks q p = quiet 0 (withRequest q p)
+abbrev pub requested : Request → Party → Outcome
+requested q p = quiet 0 (withRequest q p)
 
 -- "Poll register: sets saved."
 abbrev pub pollRegister : ℕ → View → Outcome
-pollRegister x v = let p = v .party in asks (withSaved x (p .request)) p
+pollRegister x v = let p = v .party in requested (withSaved x (p .request)) p
 
 -- "A new host call switches it with 0 or 1." (document 02, Q-5)
 abbrev pub secondRequest : Bool → View → Outcome
-secondRequest on v = let p = v .party in asks (withRsv2 on (p .request)) p
+secondRequest on v = let p = v .party in requested (withRsv2 on (p .request)) p
 
 -- "the acceptor goes to AWNS when DAV is true, else ANRS"
 abbrev pub joining : Bool → Acceptor

@@ -1,6 +1,6 @@
 // What the host's calls do to their own party, once they are accepted.
 ghost use mathlib.Core.Path.{_≡_};
-ghost use Rattle.host_calls.specs.HostCalls.{write, read, asks, pollRegister, secondRequest, listenAcceptor};
+ghost use Rattle.host_calls.specs.HostCalls.{write, read, requested, pollRegister, secondRequest, listenAcceptor};
 ghost use Rattle.host_calls.specs.HostCalls.{listenOnly, talkOnly, controlled, dropHeld, resetAcceptor, reset};
 ghost use Rattle.host_calls.specs.HostCalls.{clear, tell};
 use effect::After;
@@ -38,8 +38,8 @@ pub fn read(v: View) -> Outcome
 }
 
 // A party that asks for service by this request.
-fn asks(request: Request, p: Party) -> Outcome
-    ensures { λ r. ⌜ r ≡ asks request p ⌝ }
+fn requested(request: Request, p: Party) -> Outcome
+    ensures { λ r. ⌜ r ≡ requested request p ⌝ }
 {
     Outcome::quiet(0, p.with_request(request))
 }
@@ -49,7 +49,7 @@ pub fn poll_register(value: u8, v: View) -> Outcome
 {
     let p = v.party;
     let request = p.request;
-    asks(request.with_saved(value), p)
+    requested(request.with_saved(value), p)
 }
 
 pub fn second_request(on: bool, v: View) -> Outcome
@@ -57,7 +57,7 @@ pub fn second_request(on: bool, v: View) -> Outcome
 {
     let p = v.party;
     let request = p.request;
-    asks(request.with_rsv2(on), p)
+    requested(request.with_rsv2(on), p)
 }
 
 // The acceptor of who is told to listen or not: who joins while a byte stands waits for its end.

@@ -73,9 +73,9 @@ parties-kept : (ps : List Party) → map partyOf (map rowOf ps) ≡ ps
 parties-kept [] = refl
 parties-kept (p ∷ ps) = rw (party-kept p, parties-kept ps) refl
 
-pub kept : ReadBack
+pub read-back : ReadBack
 unfolding busOf rowsOf
-kept b z =
+read-back b z =
     let written : length (map rowOf (b .parties)) ≡ 15 = length-map (b .parties) rowOf ∙ z in
     rw (
       take-at (map rowOf (b .parties)) (lastRow b ∷ []) 15 written,

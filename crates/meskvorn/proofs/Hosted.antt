@@ -15,10 +15,10 @@ use Rattle.effect.specs.declared.Refusal.{Refusal}
 use Rattle.effect.specs.Calls.{isAccepted, refusalNumber}
 use Rattle.runner.specs.declared.Given.{Given}
 use Rattle.image.specs.Image.{rowsOf, busOf}
-use Rattle.image.proofs.Kept.{kept}
+use Rattle.image.proofs.Kept.{read-back}
 use Rattle.meskvorn.specs.Packing.{packed}
 use Rattle.meskvorn.specs.Host.{rowsAfter, Replied, Built, Gave, maskList, countList, Counted}
-use Rattle.meskvorn.specs.Hosted.{answerOf, turnsOf, Asked, call, run, drivers-of-lines, Reply, answer, turns}
+use Rattle.meskvorn.specs.Hosted.{answerOf, runOf, Asked, call, run, drivers-of-lines, Reply, answer, turns}
 use Rattle.meskvorn.specs.Hosted.{driven, Handed, none, called, ran, asked, Same, Hosted, HostedFromBuild}
 use Rattle.meskvorn.proofs.Sizes.{answer-size, turns-size, drivers-size, build-size}
 use Rattle.meskvorn.proofs.Refused.{answer-leaves, turns-leave}
@@ -68,7 +68,7 @@ handed rows (call o ∷ xs) =
     let r = handed (rowsAfter (a .refusal) (a .bus) rows) xs in
     (answer (packed a) ∷ r .0, (r .1 .0, called (record { said = refl; rows = refl }) (r .1 .1)))
 handed rows (run t ∷ xs) =
-    let g = turnsOf (busOf rows) t in
+    let g = runOf (busOf rows) t in
     let r = handed (rowsAfter (g .refusal) (g .bus) rows) xs in (
       turns (refusalNumber (g .refusal)) (g .counts) ∷ r .0,
       (r .1 .0, ran (record { said = refl; counted = refl; rows = refl }) (r .1 .1)),
@@ -85,28 +85,28 @@ go : {rows : List (List ℕ)} {xs : List Asked} {rs : List Reply} {last : List (
     → (b : Bus) → length (b .parties) ≡ 15 → rows ≡ rowsOf b → Same b xs rs last
 go none b z e = record { said = refl; rows = e }
 go (called {rows = rows} {o = o} l h) b z e =
-    let read : busOf _ ≡ b = ap busOf e ∙ kept b z in
+    let read : busOf _ ≡ b = ap busOf e ∙ read-back b z in
     let r = go h (answerOf b o .bus) (answer-size b (o .op) (o .party) (o .value) (o .extra) z)
     (l .rows ∙ ap (λ (x : Bus). rowsAfter (answerOf x o .refusal) (answerOf x o .bus) rows) read
     ∙ rows-next (answerOf b o .refusal) (answerOf b o .bus) b rows e
     (answer-leaves b (o .op) (o .party) (o .value) (o .extra))) in
     record { said = cc (l .said ∙ ap (λ (x : Bus). packed (answerOf x o)) read, r .said); rows = r .rows }
 go (ran {rows = rows} {t = t} l h) b z e =
-    let read : busOf _ ≡ b = ap busOf e ∙ kept b z in
-    let r = go h (turnsOf b t .bus) (turns-size b t z)
-    (l .rows ∙ ap (λ (x : Bus). rowsAfter (turnsOf x t .refusal) (turnsOf x t .bus) rows) read
-    ∙ rows-next (turnsOf b t .refusal) (turnsOf b t .bus) b rows e (turns-leave b t)) in
+    let read : busOf _ ≡ b = ap busOf e ∙ read-back b z in
+    let r = go h (runOf b t .bus) (turns-size b t z)
+    (l .rows ∙ ap (λ (x : Bus). rowsAfter (runOf x t .refusal) (runOf x t .bus) rows) read
+    ∙ rows-next (runOf b t .refusal) (runOf b t .bus) b rows e (turns-leave b t)) in
     record {
       said = cc (
-        l .said ∙ ap (λ (x : Bus). refusalNumber (turnsOf x t .refusal)) read,
+        l .said ∙ ap (λ (x : Bus). refusalNumber (runOf x t .refusal)) read,
         l .counted
-            ∙ ap (λ (x : Bus). turnsOf x t .counts) read,
+            ∙ ap (λ (x : Bus). runOf x t .counts) read,
         r .said,
       );
       rows = r .rows;
     }
 go (asked l h) b z e =
-    let read : busOf _ ≡ b = ap busOf e ∙ kept b z in
+    let read : busOf _ ≡ b = ap busOf e ∙ read-back b z in
     let r = go h (drivers b .answer .bus) (drivers-size b z)
     (l .rows ∙ ap (λ (x : Bus). rowsOf (drivers x .answer .bus)) read) in
     record {

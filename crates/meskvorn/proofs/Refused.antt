@@ -14,7 +14,7 @@ use Rattle.runner.specs.Runner.{giveTurns}
 use Rattle.orders.specs.declared.Order.{Order}
 use Rattle.orders.specs.declared.Order.the-variants as order
 use Rattle.orders.specs.Orders.{orderOf, obey}
-use Rattle.meskvorn.specs.Host.{answerTo}
+use Rattle.meskvorn.specs.Host.{answerByNumber}
 
 abbrev isBuild : Order → Bool
 isBuild (order.Build system n first) = true
@@ -45,8 +45,8 @@ module _ (b : Bus) where
   order-leaves (order.Call c) e = refused-leaves b c
   order-leaves order.Unknown e = λ _. refl
 
-  pub answer-leaves : (op party value extra : ℕ) → Leaves (answerTo b op party value extra)
-  unfolding answerTo
+  pub answer-leaves : (op party value extra : ℕ) → Leaves (answerByNumber b op party value extra)
+  unfolding answerByNumber
   answer-leaves op party value extra = cond-elim Leaves (eqb op 0) (λ _ _. refl)
       (λ h. order-leaves (orderOf op party value extra) (not-build op party value extra h))
 

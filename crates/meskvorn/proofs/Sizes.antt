@@ -30,7 +30,7 @@ use Rattle.runner.specs.Runner.{steps, turnsOf, giveTurns}
 use Rattle.orders.specs.Orders.{orderOf, obey, buildFrom, countUp}
 use Rattle.orders.specs.declared.Order.{Order}
 use Rattle.orders.specs.declared.Order.the-variants as order
-use Rattle.meskvorn.specs.Host.{answerTo}
+use Rattle.meskvorn.specs.Host.{answerByNumber}
 
 abbrev Full : Bus → Type 0
 Full b = length (b .parties) ≡ 15
@@ -80,7 +80,7 @@ obey-size b (order.Build s n first) h = build-size (names (countUp n first) []) 
 obey-size b (order.Call c) h = call-size b c h
 obey-size b order.Unknown h = h
 
-pub answer-size : (b : Bus) (op party value extra : ℕ) → Full b → Full (answerTo b op party value extra .bus)
-unfolding answerTo
+pub answer-size : (b : Bus) (op party value extra : ℕ) → Full b → Full (answerByNumber b op party value extra .bus)
+unfolding answerByNumber
 answer-size b op party value extra h = either (eqb op 0) (refuse ruling.BadValue b)
     (obey b (orderOf op party value extra)) h (obey-size b (orderOf op party value extra) h)

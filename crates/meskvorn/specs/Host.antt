@@ -34,8 +34,9 @@ RanTo script before after n = (r : Ran) × ((n ≡ countOf r) × RanAs script be
 
 -- An operation by the number that it has in a script. Build, 0, takes a list of addresses and has a function of its
 -- own: here it is no operation.
-unfoldable pub answerTo : Bus → ℕ → ℕ → ℕ → ℕ → Answer
-answerTo b op party value extra = cond (eqb op 0) (refuse ruling.BadValue b) (obey b (orderOf op party value extra))
+unfoldable pub answerByNumber : Bus → ℕ → ℕ → ℕ → ℕ → Answer
+answerByNumber b op party value extra =
+    cond (eqb op 0) (refuse ruling.BadValue b) (obey b (orderOf op party value extra))
 
 -- The rows after what was answered with this refusal: those of the bus that it left. What is refused leaves the rows as
 -- they were, byte for byte, whatever they held.

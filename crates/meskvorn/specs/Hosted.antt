@@ -17,7 +17,7 @@ use Rattle.runner.specs.Waiting.{byPlace}
 use Rattle.runner.specs.Runner.{giveTurns}
 use Rattle.image.specs.Image.{rowsOf, busOf}
 use Rattle.meskvorn.specs.Packing.{packed}
-use Rattle.meskvorn.specs.Host.{answerTo, Replied, Built, Gave, maskList, countList, Counted}
+use Rattle.meskvorn.specs.Host.{answerByNumber, Replied, Built, Gave, maskList, countList, Counted}
 
 -- An operation: the four numbers that meskvorn_call takes.
 pub record Op : Type 0 where
@@ -27,7 +27,7 @@ pub record Op : Type 0 where
   pub extra : ℕ
 
 abbrev pub answerOf : Bus → Op → Answer
-answerOf b o = answerTo b (o .op) (o .party) (o .value) (o .extra)
+answerOf b o = answerByNumber b (o .op) (o .party) (o .value) (o .extra)
 
 -- What a host asks for: an operation, a run of so many turns, or who drives the lines; and what it is given: an
 -- answer's number, a refusal's with the counts of the places, or an answer's with the masks and the counts of the
@@ -42,20 +42,20 @@ pub data Reply : Type 0 where
   turns : ℕ → List ℕ → Reply
   driven : ℕ → List ℕ → List ℕ → Reply
 
-abbrev pub turnsOf : Bus → ℕ → Given
-turnsOf b t = giveTurns byPlace b t
+abbrev pub runOf : Bus → ℕ → Given
+runOf b t = giveTurns byPlace b t
 
 -- The machine's bus after them, and what it has to say.
-abbrev pub busAfter : Bus → List Asked → Bus
-busAfter b [] = b
-busAfter b (call o ∷ xs) = busAfter (answerOf b o .bus) xs
-busAfter b (run t ∷ xs) = busAfter (turnsOf b t .bus) xs
-busAfter b (drivers-of-lines ∷ xs) = busAfter (drivers b .answer .bus) xs
+abbrev pub afterAsked : Bus → List Asked → Bus
+afterAsked b [] = b
+afterAsked b (call o ∷ xs) = afterAsked (answerOf b o .bus) xs
+afterAsked b (run t ∷ xs) = afterAsked (runOf b t .bus) xs
+afterAsked b (drivers-of-lines ∷ xs) = afterAsked (drivers b .answer .bus) xs
 
 abbrev pub replies : Bus → List Asked → List Reply
 replies b [] = []
 replies b (call o ∷ xs) = answer (packed (answerOf b o)) ∷ replies (answerOf b o .bus) xs
-replies b (run t ∷ xs) = turns (refusalNumber (turnsOf b t .refusal)) (turnsOf b t .counts) ∷ replies (turnsOf b t .bus)
+replies b (run t ∷ xs) = turns (refusalNumber (runOf b t .refusal)) (runOf b t .counts) ∷ replies (runOf b t .bus)
     xs
 replies b (drivers-of-lines ∷ xs) = driven (packed (drivers b .answer)) (maskList (drivers b .masks))
     (countList (drivers b .counts)) ∷ replies (drivers b .answer .bus) xs
@@ -68,7 +68,7 @@ pub data Handed : List (List ℕ) → List Asked → List Reply → List (List �
       → Replied (answerOf (busOf rows) o) rows next n → Handed next xs rs last
       → Handed rows (call o ∷ xs) (answer n ∷ rs) last
   ran : {rows next last : List (List ℕ)} {t : ℕ} {xs : List Asked} {n : ℕ} {counts : List ℕ} {rs : List Reply}
-      → Gave (turnsOf (busOf rows) t) rows next counts n → Handed next xs rs last
+      → Gave (runOf (busOf rows) t) rows next counts n → Handed next xs rs last
       → Handed rows (run t ∷ xs) (turns n counts ∷ rs) last
   asked : {rows next last : List (List ℕ)} {xs : List Asked} {n : ℕ} {masks counts : List ℕ} {rs : List Reply}
       → Counted (drivers (busOf rows)) next masks counts n → Handed next xs rs last
@@ -77,7 +77,7 @@ pub data Handed : List (List ℕ) → List Asked → List Reply → List (List �
 -- The replies and the rows are the machine's.
 pub record Same (b : Bus) (xs : List Asked) (rs : List Reply) (last : List (List ℕ)) : Type 0 where
   pub said : rs ≡ replies b xs
-  pub rows : last ≡ rowsOf (busAfter b xs)
+  pub rows : last ≡ rowsOf (afterAsked b xs)
 
 -- Whoever keeps a bus of fifteen places as rows, and hands the rows to every one of them, has the machine.
 abbrev pub Hosted : Type 0

@@ -1,7 +1,7 @@
 // The bus call by call, for a program that keeps it as rows of bytes between the calls.
 ghost use Rattle.image.specs.Image.{busOf};
-ghost use Rattle.meskvorn.specs.Host.{answerTo, Replied};
-use crate::calls::answer_to;
+ghost use Rattle.meskvorn.specs.Host.{answerByNumber, Replied};
+use crate::calls::answer_by_number;
 use crate::packing::packed;
 use image::reading::bus_of;
 use image::writing::rows_of;
@@ -18,13 +18,13 @@ pub extern "C" fn meskvorn_call(
 ) -> u64
     ensures { λ r.
         ⌜
-        Replied (answerTo (busOf (now (bus .entry))) op party value extra)
+        Replied (answerByNumber (busOf (now (bus .entry))) op party value extra)
         (now (bus .entry)) (now (bus .exit)) r
         ⌝ }
 {
     let rows = *bus;
     let before = bus_of(rows);
-    let a = answer_to(before, op, party, value, extra);
+    let a = answer_by_number(before, op, party, value, extra);
     let refusal = a.refusal;
     if refusal.is_accepted() {
         let next = a.bus;

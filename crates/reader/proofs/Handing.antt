@@ -12,7 +12,7 @@ use borrow.Author.Tests.{ltb-true, ltb-false, le-ltb}
 use Rattle.reader.specs.declared.Next.{Next}
 use Rattle.reader.specs.declared.Next.the-variants.{Record, Bad, End}
 use Rattle.reader.specs.Record.{recordAt, afterAt, records}
-use Rattle.reader.specs.Handing.{handed, isEnd, untilEnd, HandsOut}
+use Rattle.reader.specs.Handing.{handed, saysEnd, untilEnd, HandsOut}
 use Rattle.reader.proofs.Records.{turn}
 
 -- at the end there is no record, and the place after it is the end
@@ -52,7 +52,7 @@ comes : (s : List ℕ) (k at n : ℕ) → length s - at ≤ k → Comes s at n
 comes s zero at n h = comes-end s at n (omega arith)
 comes s (suc k) at n h = step s at n _ refl (λ f. comes s k (afterAt s at) n (further s at k f h))
 
-marked : (t : Bool) (r : Next) (rs : List Next) (n : ℕ) → isEnd r ≡ false
+marked : (t : Bool) (r : Next) (rs : List Next) (n : ℕ) → saysEnd r ≡ false
     → untilEnd (rs ++ replicate (suc n) End) ≡ rs
     → untilEnd (cond t (r ∷ rs) (Bad ∷ []) ++ replicate (suc n) End) ≡ cond t (r ∷ rs) (Bad ∷ [])
 unfolding untilEnd

@@ -14,15 +14,15 @@ unfoldable pub handed : List ℕ → ℕ → ℕ → List Next
 handed s at zero = []
 handed s at (suc n) = takeAt s at .next ∷ handed s (takeAt s at .at) n
 
-abbrev pub isEnd : Next → Bool
-isEnd (Record op party value extra) = false
-isEnd Bad = false
-isEnd End = true
+abbrev pub saysEnd : Next → Bool
+saysEnd (Record op party value extra) = false
+saysEnd Bad = false
+saysEnd End = true
 
 -- What comes before the end.
 unfoldable pub untilEnd : List Next → List Next
 untilEnd [] = []
-untilEnd (r ∷ rs) = cond (isEnd r) [] (r ∷ untilEnd rs)
+untilEnd (r ∷ rs) = cond (saysEnd r) [] (r ∷ untilEnd rs)
 
 -- Asked from the start of a script until the end comes, a reader hands out the records of the script: each of them, in
 -- their order, and nothing else. Asked further, it says each time that the end has come.

@@ -22,7 +22,7 @@ use Rattle.bus.specs.Types.act-of
 use Rattle.bus.specs.Record.{here, lines}
 use Rattle.bus.specs.Delivery.{moment, busAt, answerAt}
 use Rattle.runner.specs.Waiting.{TieOrder}
-use Rattle.runner.specs.Lists.{Act, expanded, Start}
+use Rattle.runner.specs.Lists.{Item, expanded, Start}
 
 -- "Polled: ATN false, talk and poll mode on": party p of a bus.
 abbrev pub polledOn : Bus → ℕ → Bool
@@ -117,5 +117,5 @@ RequestsAnswered = (names : List Name) (b : Bus) → Start names b → (cs : Lis
 
 -- The same for every list of calls and runs: "In a list of demand 3 a run stands for its steps" (document 02, Q-1).
 abbrev pub RequestsAnsweredWithRuns : Type 0
-RequestsAnsweredWithRuns = (names : List Name) (b : Bus) → Start names b → (tie : Bus → TieOrder) (xs : List Act)
+RequestsAnsweredWithRuns = (names : List Name) (b : Bus) → Start names b → (tie : Bus → TieOrder) (xs : List Item)
     (p : ℕ) → Answered b (expanded tie b xs) p

@@ -5,7 +5,7 @@ use mathlib.Core.Bool.{Bool, true, false}
 use mathlib.Core.Logic.{_⊎_, inl, inr}
 use Rattle.role.specs.Types.{Secondary, Absent, Given, Mark, Unmarked, TalkPrimary, ListenPrimary, Role}
 use Rattle.names.proofs.Clashes.{isExtended}
-use Rattle.role.specs.Roles.{withFlags, markOf, listenAddressed, talkAddressed, seconded}
+use Rattle.role.specs.Roles.{withFlags, markSet, listenAddressed, talkAddressed, seconded}
 use Rattle.role.proofs.Logic.{no}
 
 abbrev pub talkPrimary : Mark → Bool
@@ -58,7 +58,7 @@ second-weak ListenPrimary true t l r h e = e
 second-weak ListenPrimary false t l r h e = h e
 
 -- a listen address sets no talk mark, and turns no talk on
-pub listen-unmarked : (x : Secondary) (mine : Bool) → talkPrimary (markOf x mine ListenPrimary) ≡ false
+pub listen-unmarked : (x : Secondary) (mine : Bool) → talkPrimary (markSet x mine ListenPrimary) ≡ false
 listen-unmarked Absent mine = refl
 listen-unmarked (Given s) true = refl
 listen-unmarked (Given s) false = refl
@@ -77,13 +77,13 @@ talk-talk Absent false r e = no (cc)
 talk-talk (Given s) true r e = (refl, λ f. e)
 talk-talk (Given s) false r e = no (cc)
 
-pub talk-mark : (x : Secondary) (mine : Bool) → talkPrimary (markOf x mine TalkPrimary) ≡ true → mine ≡ true
+pub talk-mark : (x : Secondary) (mine : Bool) → talkPrimary (markSet x mine TalkPrimary) ≡ true → mine ≡ true
 talk-mark Absent mine e = no (cc)
 talk-mark (Given s) true e = refl
 talk-mark (Given s) false e = no (cc)
 
 pub talk-sets : (x : Secondary) (mine : Bool) → mine ≡ true → isExtended x ≡ true
-    → talkPrimary (markOf x mine TalkPrimary) ≡ true
+    → talkPrimary (markSet x mine TalkPrimary) ≡ true
 talk-sets Absent mine e f = no (cc)
 talk-sets (Given s) mine e f = rw e
 

@@ -33,17 +33,17 @@ ownsSecondary s r = isGiven s (r .name .secondary)
 
 -- The mark that a talk or listen address sets, the own one or not. Document 02, Q-3: "For such a party the own talk
 -- (listen) address only sets "talk primary" ("listen primary")."
-abbrev pub markOf : Secondary → Bool → Mark → Mark
-markOf Absent mine m = Unmarked
-markOf (Given s) mine m = cond mine m Unmarked
+abbrev pub markSet : Secondary → Bool → Mark → Mark
+markSet Absent mine m = Unmarked
+markSet (Given s) mine m = cond mine m Unmarked
 
 -- The mark that hearing leaves. "00 to 5F are primary commands, 60 to 7E secondaries, 7F neither." "Each of the two
 -- clears the other mark, any further primary command clears both": the mark outlasts a secondary, and 7F.
 abbrev pub markAfter : Meaning → Role → Mark
 markAfter Other r = Unmarked
-markAfter (Listen a) r = markOf (r .name .secondary) (owns a r) ListenPrimary
+markAfter (Listen a) r = markSet (r .name .secondary) (owns a r) ListenPrimary
 markAfter Unlisten r = Unmarked
-markAfter (Talk a) r = markOf (r .name .secondary) (owns a r) TalkPrimary
+markAfter (Talk a) r = markSet (r .name .secondary) (owns a r) TalkPrimary
 markAfter Untalk r = Unmarked
 markAfter Sdc r = Unmarked
 markAfter Get r = Unmarked

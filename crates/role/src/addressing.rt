@@ -1,6 +1,6 @@
 // Addressing: what the own primary and a secondary do to who hears them.
 ghost use mathlib.Core.Path.{_≡_};
-ghost use Rattle.role.specs.Roles.{owns, ownsSecondary, markOf, listenAddressed, talkAddressed, seconded};
+ghost use Rattle.role.specs.Roles.{owns, ownsSecondary, markSet, listenAddressed, talkAddressed, seconded};
 use crate::Mark;
 use crate::Role;
 use message::Address;
@@ -8,8 +8,8 @@ use message::SecondaryAddress;
 use names::Secondary;
 
 // The mark that a primary address sets, the own one or not, for a party with this secondary.
-pub(crate) fn mark_of(secondary: Secondary, mine: bool, mark: Mark) -> Mark
-    ensures { λ r. ⌜ r ≡ markOf secondary mine mark ⌝ }
+pub(crate) fn mark_set(secondary: Secondary, mine: bool, mark: Mark) -> Mark
+    ensures { λ r. ⌜ r ≡ markSet secondary mine mark ⌝ }
 {
     match secondary {
         Secondary::Absent => Mark::Unmarked,

@@ -3,7 +3,7 @@ ghost use mathlib.Core.Path.{_≡_};
 ghost use Rattle.role.specs.Roles.{markAfter, addressed, roleHeard, hearEvent, passesControl};
 use crate::Mark;
 use crate::Role;
-use crate::addressing::mark_of;
+use crate::addressing::mark_set;
 use event::Event;
 use message::Meaning;
 
@@ -16,9 +16,9 @@ impl Role {
         let secondary = name.secondary;
         match m {
             Meaning::Other => Mark::Unmarked,
-            Meaning::Listen(a) => mark_of(secondary, self.owns(a), Mark::ListenPrimary),
+            Meaning::Listen(a) => mark_set(secondary, self.owns(a), Mark::ListenPrimary),
             Meaning::Unlisten => Mark::Unmarked,
-            Meaning::Talk(a) => mark_of(secondary, self.owns(a), Mark::TalkPrimary),
+            Meaning::Talk(a) => mark_set(secondary, self.owns(a), Mark::TalkPrimary),
             Meaning::Untalk => Mark::Unmarked,
             Meaning::Sdc => Mark::Unmarked,
             Meaning::Get => Mark::Unmarked,

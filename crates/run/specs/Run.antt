@@ -35,8 +35,8 @@ unfoldable pub textOf : List ℕ → List ℕ
 textOf s = cond (ltb 65532 (length s)) (lineOf 0 (refuse ruling.Record noParties)) (textFrom noParties 1 (records s))
 
 -- The most lines that a text can have: 1 if the script is over length, else one for each record and part of one.
-unfoldable pub linesOf : List ℕ → ℕ
-linesOf s = cond (ltb 65532 (length s)) 1 ((length s + 5) / 6)
+unfoldable pub lineCount : List ℕ → ℕ
+lineCount s = cond (ltb 65532 (length s)) 1 ((length s + 5) / 6)
 
 -- The n bytes of the text stand at the start of the buffer, and the rest is unchanged.
 abbrev pub Printed : List ℕ → List ℕ → List ℕ → ℕ → Type 0
@@ -45,5 +45,5 @@ Printed s before after n = (n ≡ length (textOf s)) × (after ≡ textOf s ++ d
 -- Where the buffer has 34 bytes for each line the text is printed into it; where it has less there is no room, and it
 -- is unchanged.
 abbrev pub RanAs : List ℕ → List ℕ → List ℕ → Ran → Type 0
-RanAs s before after (ran.Wrote n) = (34 * linesOf s ≤ length before) × Printed s before after n
-RanAs s before after ran.NoRoom = (length before < 34 * linesOf s) × (after ≡ before)
+RanAs s before after (ran.Wrote n) = (34 * lineCount s ≤ length before) × Printed s before after n
+RanAs s before after ran.NoRoom = (length before < 34 * lineCount s) × (after ≡ before)

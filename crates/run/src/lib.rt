@@ -5,7 +5,7 @@ ghost use lib.ListN.{length};
 ghost use Rattle.bus.specs.Record.{noParties};
 ghost use Rattle.reader.specs.Record.{records};
 ghost use Rattle.text.specs.Text.{Wrote};
-ghost use Rattle.run.specs.Run.{answerTo, textFrom, textOf, linesOf, Printed, RanAs};
+ghost use Rattle.run.specs.Run.{answerTo, textFrom, textOf, lineCount, Printed, RanAs};
 use bus::Answer;
 use bus::Bus;
 use effect::Refusal;
@@ -63,8 +63,8 @@ fn run_all(script: &[u8], out: &mut [u8]) -> usize
 }
 
 // The most lines that a script can have.
-fn lines_of(script: &[u8]) -> usize
-    ensures { λ r. ⌜ r ≡ linesOf (now (script .entry)) ⌝ }
+fn line_count(script: &[u8]) -> usize
+    ensures { λ r. ⌜ r ≡ lineCount (now (script .entry)) ⌝ }
 {
     if LONGEST < script.len() {
         return 1;
@@ -74,7 +74,7 @@ fn lines_of(script: &[u8]) -> usize
 
 // The text of a script, at the start of out.
 fn put_text(script: &[u8], out: &mut [u8]) -> usize
-    requires { ⌜ 34 * linesOf (now script) ≤ length (now out) ⌝ }
+    requires { ⌜ 34 * lineCount (now script) ≤ length (now out) ⌝ }
     ensures { λ r. ⌜ Wrote (now (out .entry)) 0 (textOf (now (script .entry))) (now (out .exit)) r ⌝ }
 {
     if LONGEST < script.len() {
@@ -95,7 +95,7 @@ pub enum Ran {
 pub fn run(script: &[u8], out: &mut [u8]) -> Ran
     ensures { λ r. ⌜ RanAs (now (script .entry)) (now (out .entry)) (now (out .exit)) r ⌝ }
 {
-    if out.len() / 34 < lines_of(script) {
+    if out.len() / 34 < line_count(script) {
         return Ran::NoRoom;
     }
     Ran::Wrote(put_text(script, out))

@@ -9,22 +9,22 @@ use Rattle.parties.specs.Places.{place}
 use Rattle.bus.specs.declared.Bus.{Bus}
 use Rattle.bus.specs.Record.{build, noParties}
 use Rattle.bus.specs.Machine as m
-use Rattle.bus.specs.Rows.{Report, reported}
+use Rattle.bus.specs.Rows.{Report, reportOf}
 use Rattle.bus.specs.Types.ruling
 use Rattle.bus.specs.Types.ev
 use Rattle.bus.specs.Types.call-of
 use Rattle.bus.specs.Types.act-of
 use Rattle.runner.specs.Waiting.{byPlace, longestWaiting, turns}
 use Rattle.runner.specs.Runner.{giveTurns}
-use Rattle.runner.specs.Lists.{Act, call, acted}
+use Rattle.runner.specs.Lists.{Item, call, ledBy}
 
 -- Of document 01's script the calls before the first step: party 0 talks, party 1 listens, 41 with END is held.
-abbrev before : List Act
+abbrev before : List Item
 before = call (call-of.Of (place 0) (act-of.TalkOnly 1)) ∷ call (call-of.Of (place 1) (act-of.ListenOnly 1)) ∷ call
     (call-of.Of (place 0) (act-of.Write 65 1)) ∷ []
 
-abbrev pub after : List Act → Bus
-after xs = acted (λ b. byPlace) (build (5 ∷ 6 ∷ []) (place 0) .bus) xs
+abbrev pub after : List Item → Bus
+after xs = ledBy (λ b. byPlace) (build (5 ∷ 6 ∷ []) (place 0) .bus) xs
 
 abbrev 41-is-read : Report
 41-is-read = record { refusal = ruling.Accepted; event = ev.Read; byte = 65; end = true; dropped = 0; broken = 0 }
@@ -37,7 +37,7 @@ pub record Examples : Type 0 where
   pub fromTheTop : turns (λ x y. ltb y x) 3 7 ≡ (2 ∷ 1 ∷ 0 ∷ 2 ∷ 1 ∷ 0 ∷ 2 ∷ [])
   -- document 01's script with its seven steps as a run of seven turns: the byte has ended, and 41 is read
   pub script : giveTurns byPlace (after before) 7 .counts ≡ (4 ∷ 3 ∷ replicate 13 0)
-  pub scriptEnds : reported (m.call (giveTurns byPlace (after before) 7 .bus) (call-of.Of (place 1) act-of.Read))
+  pub scriptEnds : reportOf (m.call (giveTurns byPlace (after before) 7 .bus) (call-of.Of (place 1) act-of.Read))
       ≡ 41-is-read
   -- "a bus of no parties is refused with 1, all counts 0"
   pub nobody : giveTurns byPlace noParties 65535

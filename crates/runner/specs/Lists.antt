@@ -13,28 +13,28 @@ use Rattle.bus.specs.Types.ruling
 use Rattle.runner.specs.Waiting.{TieOrder}
 use Rattle.runner.specs.Runner.{steps, turnsOf, giveTurns}
 
--- What a host does: a call, or a run of so many turns.
-pub data Act : Type 0 where
-  call : Call → Act
-  run : ℕ → Act
+-- What a host does: a call, or a run of so many turns. A list has these for its items.
+pub data Item : Type 0 where
+  call : Call → Item
+  run : ℕ → Item
 
 -- The tie order may be one that is read off the bus.
 module _ (tie : Bus → TieOrder) where
-  -- The bus after a list of them.
-  abbrev pub acted : Bus → List Act → Bus
-  acted b [] = b
-  acted b (call c ∷ xs) = acted (m.call b c .bus) xs
-  acted b (run t ∷ xs) = acted (giveTurns (tie b) b t .bus) xs
+  -- The bus that a list leads to.
+  abbrev pub ledBy : Bus → List Item → Bus
+  ledBy b [] = b
+  ledBy b (call c ∷ xs) = ledBy (m.call b c .bus) xs
+  ledBy b (run t ∷ xs) = ledBy (giveTurns (tie b) b t .bus) xs
 
   -- The list with each run replaced by its steps.
-  abbrev pub expanded : Bus → List Act → List Call
+  abbrev pub expanded : Bus → List Item → List Call
   expanded b [] = []
   expanded b (call c ∷ xs) = c ∷ expanded (m.call b c .bus) xs
   expanded b (run t ∷ xs) = steps (turnsOf (tie b) b t) ++ expanded (giveTurns (tie b) b t .bus) xs
 
 -- A list with runs leads to the bus that the list of its steps leads to.
 abbrev pub StandsForSteps : Type 0
-StandsForSteps = (tie : Bus → TieOrder) (b : Bus) (xs : List Act) → acted tie b xs ≡ m.run b (expanded tie b xs)
+StandsForSteps = (tie : Bus → TieOrder) (b : Bus) (xs : List Item) → ledBy tie b xs ≡ m.run b (expanded tie b xs)
 
 -- How a bus starts, and what its parties are named: "a bus that an accepted build gave".
 pub data Start (names : List Name) : Bus → Type 0 where
@@ -43,7 +43,7 @@ pub data Start (names : List Name) : Bus → Type 0 where
 
 -- The buses that such a start and any list of calls and runs lead to, whatever order ties go by.
 pub data LedFrom (names : List Name) : Bus → Type 0 where
-  led : {b : Bus} → Start names b → (tie : Bus → TieOrder) (xs : List Act) → LedFrom names (acted tie b xs)
+  led : {b : Bus} → Start names b → (tie : Bus → TieOrder) (xs : List Item) → LedFrom names (ledBy tie b xs)
 
 -- The buses there are.
 abbrev pub LedTo : Bus → Type 0
@@ -51,5 +51,5 @@ LedTo b = (names : List Name) × LedFrom names b
 
 -- Demand 3 for every list of calls and runs.
 abbrev pub DeliveryWithRuns : Type 0
-DeliveryWithRuns = (names : List Name) (b : Bus) → Start names b → (tie : Bus → TieOrder) (xs : List Act)
+DeliveryWithRuns = (names : List Name) (b : Bus) → Start names b → (tie : Bus → TieOrder) (xs : List Item)
     → Delivered b (expanded tie b xs)

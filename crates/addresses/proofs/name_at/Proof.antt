@@ -22,7 +22,7 @@ returns-3 : tie.Need-returns-3
 returns-3 c =
     let a = c .before .before .before .before .before .before .before .args in
     simp (
-      c .secondary-of .ensures,
+      c .secondary-given .ensures,
       name-both (a .addresses .now) (a .secondaries .now) (a .i) (plain (address 0)) (omega arith) (omega arith),
     )
 

@@ -3,7 +3,7 @@ use Rattle.host_calls.proofs.poll_register.Statement.{statement}
 use Rattle.host_calls.proofs.poll_register.Tie as tie
 
 returns : tie.Need-returns
-returns c = simp (c .asks .ensures, c .before .with-saved .ensures)
+returns c = simp (c .requested .ensures, c .before .with-saved .ensures)
 
 pub poll-register-spec : {M : Type 1} → statement M
 poll-register-spec = tie.close (tie.spec

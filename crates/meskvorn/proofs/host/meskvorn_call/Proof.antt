@@ -8,14 +8,14 @@ returns : tie.Need-returns
 returns c =
     let t = c .before .before .before in
     let d = t .before .before in
-    replied (rw (d .before .bus-of .ensures) at (d .answer-to .ensures)) (c .packed .ensures)
+    replied (rw (d .before .bus-of .ensures) at (d .answer-by-number .ensures)) (c .packed .ensures)
     (rw (sym (t .before .is-accepted .ensures) ∙ t .if1 .taken) (c .before .rows-of .ensures))
 
 returns-2 : tie.Need-returns-2
 returns-2 c =
     let t = c .before in
     let d = t .before .before in
-    replied (rw (d .before .bus-of .ensures) at (d .answer-to .ensures)) (c .packed2 .ensures)
+    replied (rw (d .before .bus-of .ensures) at (d .answer-by-number .ensures)) (c .packed2 .ensures)
     (rw (sym (t .before .is-accepted .ensures) ∙ t .if1 .left) refl)
 
 pub meskvorn-call-spec : {M : Type 1} → statement M
