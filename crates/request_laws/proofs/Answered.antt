@@ -12,21 +12,17 @@ use borrow.Author.Tests.{eqb-true, eqb-false, ltb-true, ltb-false}
 use Rattle.service.specs.declared.Request.{Request}
 use Rattle.service.specs.declared.Service.the-variants.{Nprs, Aprs}
 use Rattle.service.proofs.Answering.{status-set, status-clear, aprs-answers, nprs-leaves}
-use Rattle.role.proofs.Logic.{no, test, cond-elim}
-use Rattle.addresses.specs.Addresses.{badBuild}
+use Rattle.role.proofs.Logic.{no, test}
 use Rattle.bus.specs.declared.Bus.{Bus}
-use Rattle.bus.specs.declared.Answer.{Answer}
 use Rattle.bus.specs.Types.{Call}
-use Rattle.bus.specs.Types.ruling
 use Rattle.bus.specs.Types.call-of
-use Rattle.bus.specs.Record as record-of
-use Rattle.bus.specs.Record.{here}
+use Rattle.bus.specs.Record.{here, accept}
 use Rattle.bus.specs.Machine as m
 use Rattle.bus.specs.Delivery.{Moment, history, moment, busAt, answerAt}
 use Rattle.bus.proofs.Invariant.{Inv}
-use Rattle.bus.proofs.Built.{built-inv}
 use Rattle.bus.proofs.EachCall.{call-good, linked}
-use Rattle.runner.specs.Lists.{expanded, built}
+use Rattle.runner.specs.Lists.{expanded}
+use Rattle.runner.proofs.Led.{led-inv}
 use Rattle.request_laws.specs.Requests.{requestAt, polled, Poll, StatAt, bit64, AsksAt, Left, NoneBetween, First}
 use Rattle.request_laws.specs.Requests.{Waits, Answered, RequestsAnswered, RequestsAnsweredWithRuns}
 use Rattle.request_laws.proofs.Serving.{Served, call-served}
@@ -90,7 +86,7 @@ module _ (b : Bus) (cs : List Call) (p : ℕ)
       go (first f K lf o x y) = absurd (none f (K .after) lf (K .puts))
       go (over f K lf o x j lj mj h) = absurd (none f (K .after) lf (K .puts))
 
-  -- a status byte put in NPRS clears nothing
+  -- a status byte put in APRS clears the bit, one put in NPRS clears nothing
   clears : (k : ℕ) → StatAt b cs p k → requestAt b cs p k .service ≡ Aprs
       → here (answerAt b cs k .bus) p .request .rsv2 ≡ false
   clears k t h = stat b cs p G N k t .bit ∙ aprs-answers (requestAt b cs p k) h
@@ -182,19 +178,10 @@ all-served b I (c ∷ cs) d zero h = call-served b I c
 all-served b I (c ∷ cs) d (suc k) h = all-served (m.call b c .bus) (call-good b I c .inv) cs d k (le-of-suc-le-suc h)
 
 pub requests-answered : RequestsAnswered
-requests-answered xs _ (built s ok) cs p =
-    cond-elim (λ (a : Answer). a .refusal ≡ ruling.Accepted → Answered (a .bus) cs p) (badBuild xs s)
-    (λ _ r. no (cc))
-    (λ e _. answered (record-of.built xs s) cs p (all-served (record-of.built xs s) (built-inv xs s e) cs past)
-    (linked (record-of.built xs s) cs past))
-    ok
+requests-answered b led cs p = answered b cs p (all-served b (led-inv b led) cs past) (linked b cs past)
   where
     past : Moment
-    past = record {
-      before = record-of.built xs s;
-      call = call-of.Lines;
-      answer = record-of.accept (record-of.built xs s);
-    }
+    past = record { before = b; call = call-of.Lines; answer = accept b }
 
 pub requests-answered-with-runs : RequestsAnsweredWithRuns
-requests-answered-with-runs xs b start tie acts = requests-answered xs b start (expanded tie b acts)
+requests-answered-with-runs b led tie xs = requests-answered b led (expanded tie b xs)

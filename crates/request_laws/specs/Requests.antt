@@ -14,7 +14,7 @@ use Rattle.service.specs.Service.{rsv}
 use Rattle.party.specs.Sending.{isPolled}
 use Rattle.parties.specs.Places.{place}
 use Rattle.bus.specs.declared.Bus.{Bus}
-use Rattle.bus.specs.Types.{Name, Call}
+use Rattle.bus.specs.Types.{Call}
 use Rattle.bus.specs.Types.ruling
 use Rattle.bus.specs.Types.ev
 use Rattle.bus.specs.Types.call-of
@@ -22,7 +22,7 @@ use Rattle.bus.specs.Types.act-of
 use Rattle.bus.specs.Record.{here, lines}
 use Rattle.bus.specs.Delivery.{moment, busAt, answerAt}
 use Rattle.runner.specs.Waiting.{TieOrder}
-use Rattle.runner.specs.Lists.{Item, expanded, Start}
+use Rattle.runner.specs.Lists.{Item, expanded, LedTo}
 
 -- "Polled: ATN false, talk and poll mode on": party p of a bus.
 abbrev pub polledOn : Bus → ℕ → Bool
@@ -111,11 +111,12 @@ module _ (b : Bus) (cs : List Call) (p : ℕ) where
     -- Every status byte is put in a poll, so that the first and the later ones are all there are.
     pub polls : (l : ℕ) → StatAt l → (s : ℕ) × (e : ℕ) × (Poll s e × (s ≤ l) × (l ≤ e))
 
--- The user's condition: for every list of calls from a start, and every party.
+-- The user's condition: from every bus that a start, calls and runs lead to, the start itself among them, for every
+-- list of calls and every party.
 abbrev pub RequestsAnswered : Type 0
-RequestsAnswered = (names : List Name) (b : Bus) → Start names b → (cs : List Call) (p : ℕ) → Answered b cs p
+RequestsAnswered = (b : Bus) → LedTo b → (cs : List Call) (p : ℕ) → Answered b cs p
 
 -- The same for every list of calls and runs: "In a list of demand 3 a run stands for its steps" (document 02, Q-1).
 abbrev pub RequestsAnsweredWithRuns : Type 0
-RequestsAnsweredWithRuns = (names : List Name) (b : Bus) → Start names b → (tie : Bus → TieOrder) (xs : List Item)
-    (p : ℕ) → Answered b (expanded tie b xs) p
+RequestsAnsweredWithRuns = (b : Bus) → LedTo b → (tie : Bus → TieOrder) (xs : List Item) (p : ℕ)
+    → Answered b (expanded tie b xs) p
