@@ -41,6 +41,8 @@ static void null_pointers(void)
     CHECK(meskvorn_script_run(worked, sizeof worked, NULL, 0) == MESKVORN_NO_ROOM);
     CHECK(meskvorn_script_run(worked, sizeof worked, NULL, MOST_ROOM) == MESKVORN_NO_ROOM);
     CHECK(meskvorn_script_run(NULL, sizeof worked, out, MOST_ROOM) == MESKVORN_NO_ROOM);
+    CHECK(meskvorn_script_run(NULL, 1, out, MOST_ROOM) == MESKVORN_NO_ROOM);
+    CHECK(meskvorn_script_run(NULL, 0, NULL, 1) == MESKVORN_NO_ROOM);
     CHECK(meskvorn_script_run(NULL, 0, out, MOST_ROOM) == 0);
     CHECK(meskvorn_script_run(NULL, 0, NULL, 0) == 0);
     CHECK(filled(around, sizeof around));
