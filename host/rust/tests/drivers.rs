@@ -1,6 +1,6 @@
 //! Drivers of the lines; what is expected is worked out from document 01 and from document 02's Q-4.
 
-use meskvorn::{Answer, Bus, Event, Line, Operation, Refusal};
+use meskvorn::{Answer, Bus, Event, Line, LineDrivers, Operation, Refusal};
 
 const NONE: Answer = Answer {
     refusal: Refusal::Accepted,
@@ -234,6 +234,19 @@ fn every_party_has_its_bit() {
         let own = &[party][..];
         expect(&mut bus, [own, &[], &others, &others, &[], own]);
     }
+}
+
+/// Where every bit is on, each of fifteen parties drives the line, and nobody else.
+#[test]
+fn there_is_no_sixteenth_party() {
+    let all = LineDrivers {
+        mask: u16::MAX,
+        count: 15,
+    };
+    for party in 0..=255 {
+        assert_eq!(all.is_driven_by(party), party < 15, "{party}");
+    }
+    assert!(all.parties().eq(0..15));
 }
 
 #[test]
