@@ -21,7 +21,7 @@ pub enum Standing {
     },
 }
 
-// Why a call was refused; specs/Words.antt gives document 01's number for each.
+// Why a call was refused; specs/Calls.antt gives document 01's number for each.
 pub enum Refusal {
     Accepted,
     NoParty,
