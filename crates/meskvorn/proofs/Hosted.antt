@@ -18,7 +18,7 @@ use Rattle.image.specs.Image.{rowsOf, busOf}
 use Rattle.image.proofs.Kept.{read-back}
 use Rattle.meskvorn.specs.Packing.{packed}
 use Rattle.meskvorn.specs.Host.{rowsAfter, Replied, Built, Gave, maskList, countList, Counted}
-use Rattle.meskvorn.specs.Hosted.{answerOf, runOf, Asked, call, run, drivers-of-lines, Reply, answer, turns}
+use Rattle.meskvorn.specs.Hosted.{answerOf, turnsGiven, Asked, call, run, drivers-of-lines, Reply, answer, turns}
 use Rattle.meskvorn.specs.Hosted.{driven, Handed, none, called, ran, asked, Same, Hosted, HostedFromBuild}
 use Rattle.meskvorn.proofs.Sizes.{answer-size, turns-size, drivers-size, build-size}
 use Rattle.meskvorn.proofs.Refused.{answer-leaves, turns-leave}
@@ -68,7 +68,7 @@ handed rows (call o ∷ xs) =
     let r = handed (rowsAfter (a .refusal) (a .bus) rows) xs in
     (answer (packed a) ∷ r .0, (r .1 .0, called (record { said = refl; rows = refl }) (r .1 .1)))
 handed rows (run t ∷ xs) =
-    let g = runOf (busOf rows) t in
+    let g = turnsGiven (busOf rows) t in
     let r = handed (rowsAfter (g .refusal) (g .bus) rows) xs in (
       turns (refusalNumber (g .refusal)) (g .counts) ∷ r .0,
       (r .1 .0, ran (record { said = refl; counted = refl; rows = refl }) (r .1 .1)),
@@ -93,14 +93,14 @@ go (called {rows = rows} {o = o} l h) b z e =
     record { said = cc (l .said ∙ ap (λ (x : Bus). packed (answerOf x o)) read, r .said); rows = r .rows }
 go (ran {rows = rows} {t = t} l h) b z e =
     let read : busOf _ ≡ b = ap busOf e ∙ read-back b z in
-    let r = go h (runOf b t .bus) (turns-size b t z)
-    (l .rows ∙ ap (λ (x : Bus). rowsAfter (runOf x t .refusal) (runOf x t .bus) rows) read
-    ∙ rows-next (runOf b t .refusal) (runOf b t .bus) b rows e (turns-leave b t)) in
+    let r = go h (turnsGiven b t .bus) (turns-size b t z)
+    (l .rows ∙ ap (λ (x : Bus). rowsAfter (turnsGiven x t .refusal) (turnsGiven x t .bus) rows) read
+    ∙ rows-next (turnsGiven b t .refusal) (turnsGiven b t .bus) b rows e (turns-leave b t)) in
     record {
       said = cc (
-        l .said ∙ ap (λ (x : Bus). refusalNumber (runOf x t .refusal)) read,
+        l .said ∙ ap (λ (x : Bus). refusalNumber (turnsGiven x t .refusal)) read,
         l .counted
-            ∙ ap (λ (x : Bus). runOf x t .counts) read,
+            ∙ ap (λ (x : Bus). turnsGiven x t .counts) read,
         r .said,
       );
       rows = r .rows;

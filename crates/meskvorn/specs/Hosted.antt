@@ -42,21 +42,21 @@ pub data Reply : Type 0 where
   turns : ℕ → List ℕ → Reply
   driven : ℕ → List ℕ → List ℕ → Reply
 
-abbrev pub runOf : Bus → ℕ → Given
-runOf b t = giveTurns byPlace b t
+abbrev pub turnsGiven : Bus → ℕ → Given
+turnsGiven b t = giveTurns byPlace b t
 
 -- The machine's bus after them, and what it has to say.
 abbrev pub afterAsked : Bus → List Asked → Bus
 afterAsked b [] = b
 afterAsked b (call o ∷ xs) = afterAsked (answerOf b o .bus) xs
-afterAsked b (run t ∷ xs) = afterAsked (runOf b t .bus) xs
+afterAsked b (run t ∷ xs) = afterAsked (turnsGiven b t .bus) xs
 afterAsked b (drivers-of-lines ∷ xs) = afterAsked (drivers b .answer .bus) xs
 
 abbrev pub replies : Bus → List Asked → List Reply
 replies b [] = []
 replies b (call o ∷ xs) = answer (packed (answerOf b o)) ∷ replies (answerOf b o .bus) xs
-replies b (run t ∷ xs) = turns (refusalNumber (runOf b t .refusal)) (runOf b t .counts) ∷ replies (runOf b t .bus)
-    xs
+replies b (run t ∷ xs) = turns (refusalNumber (turnsGiven b t .refusal)) (turnsGiven b t .counts)
+    ∷ replies (turnsGiven b t .bus) xs
 replies b (drivers-of-lines ∷ xs) = driven (packed (drivers b .answer)) (maskList (drivers b .masks))
     (countList (drivers b .counts)) ∷ replies (drivers b .answer .bus) xs
 
@@ -68,7 +68,7 @@ pub data Handed : List (List ℕ) → List Asked → List Reply → List (List �
       → Replied (answerOf (busOf rows) o) rows next n → Handed next xs rs last
       → Handed rows (call o ∷ xs) (answer n ∷ rs) last
   ran : {rows next last : List (List ℕ)} {t : ℕ} {xs : List Asked} {n : ℕ} {counts : List ℕ} {rs : List Reply}
-      → Gave (runOf (busOf rows) t) rows next counts n → Handed next xs rs last
+      → Gave (turnsGiven (busOf rows) t) rows next counts n → Handed next xs rs last
       → Handed rows (run t ∷ xs) (turns n counts ∷ rs) last
   asked : {rows next last : List (List ℕ)} {xs : List Asked} {n : ℕ} {masks counts : List ℕ} {rs : List Reply}
       → Counted (drivers (busOf rows)) next masks counts n → Handed next xs rs last
