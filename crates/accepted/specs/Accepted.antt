@@ -11,7 +11,7 @@ use Rattle.accepted.specs.Types.act-of
 use Rattle.effect.specs.Calls.{isOn}
 use Rattle.effect.specs.Effects.{stay, withStanding}
 use Rattle.host_calls.specs.HostCalls.{write, read, pollRegister, secondRequest, listenOnly, talkOnly, controlled}
-use Rattle.host_calls.specs.HostCalls.{dropHeld, reset, clear, tell}
+use Rattle.host_calls.specs.HostCalls.{dropHeld, reset, clear, tell, dataOut, markEnd}
 
 -- "A source takes the source step, any other party the acceptor step."
 abbrev pub step : View → Effect
@@ -31,6 +31,13 @@ acted v act-of.InterfaceClear = withStanding (v .standing) (clear v)
 acted v act-of.Reset = withStanding (v .standing) (reset v)
 acted v act-of.Drop = withStanding (v .standing) (dropHeld v)
 acted v (act-of.SecondRequest on) = withStanding (v .standing) (secondRequest (isOn on) v)
+acted v (act-of.DataOut x) = withStanding (v .standing) (dataOut x v)
+acted v act-of.MarkEnd = withStanding (v .standing) (markEnd v)
+acted v act-of.BusStatus = withStanding (v .standing) (tell v)
+-- "swrst cleared and sic cleared do nothing" (document 02, Q-6).
+acted v act-of.DoNothing = stay v
+-- Never accepted.
+acted v act-of.NoRegister = stay v
 
 abbrev pub effectOf : View → Call → Effect
 effectOf v (call-of.Of i a) = acted v a

@@ -41,6 +41,12 @@ fn acted(a: Act, v: View) -> Effect
         Act::Reset => host_calls::reset(v).with_standing(st),
         Act::Drop => host_calls::drop_held(v).with_standing(st),
         Act::SecondRequest(on) => host_calls::second_request(is_on(on), v).with_standing(st),
+        Act::DataOut(byte) => host_calls::data_out(byte, v).with_standing(st),
+        Act::MarkEnd => host_calls::mark_end(v).with_standing(st),
+        Act::BusStatus => host_calls::tell(v).with_standing(st),
+        Act::DoNothing => v.stay(),
+        // Never accepted.
+        Act::NoRegister => v.stay(),
     }
 }
 

@@ -26,6 +26,7 @@ use Rattle.bus.proofs.Accepting.{known}
 use Rattle.bus.proofs.Summary.{Good, Shape, keeps, puts, ends, breaks}
 use Rattle.bus.proofs.OneParty.{ruled}
 use Rattle.bus.proofs.HostCalls.{write-good, read-good, poll-good, request-good, drop-good}
+use Rattle.bus.proofs.HostCalls.{out-good, mark-good, status-good, nothing-good, register-good}
 use Rattle.bus.proofs.Switches.{listen-good, talk-good}
 use Rattle.bus.proofs.ControlCalls.{take-good, standby-good, reset-good, clear-good, lines-good, drivers-good}
 use Rattle.bus.proofs.AcceptorStep.{accept-good}
@@ -53,6 +54,11 @@ accepted-good b I (call-of.Of p act-of.InterfaceClear) = clear-good b I p
 accepted-good b I (call-of.Of p act-of.Reset) = reset-good b I p
 accepted-good b I (call-of.Of p act-of.Drop) = drop-good b I p
 accepted-good b I (call-of.Of p (act-of.SecondRequest on)) = request-good b I p on
+accepted-good b I (call-of.Of p (act-of.DataOut v)) = out-good b I p v
+accepted-good b I (call-of.Of p act-of.MarkEnd) = mark-good b I p
+accepted-good b I (call-of.Of p act-of.BusStatus) = status-good b I p
+accepted-good b I (call-of.Of p act-of.DoNothing) = nothing-good b I p
+accepted-good b I (call-of.Of p act-of.NoRegister) = register-good b I p
 accepted-good b I call-of.Lines = λ _. lines-good b I
 accepted-good b I call-of.Drivers = λ _. drivers-good b I
 

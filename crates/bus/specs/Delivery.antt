@@ -4,7 +4,7 @@
 -- parties.
 -- Assumes nothing.
 use mathlib.Core.Path.{_≡_}
-use mathlib.Core.Bool.{Bool, true, false, _&&_}
+use mathlib.Core.Bool.{Bool, true, false, _&&_, _||_}
 use mathlib.Core.List.{List, [], _∷_}
 use mathlib.Core.Logic.{_⊎_}
 use Prim.Native.Nat.{ℕ, _+_, _<_}
@@ -56,8 +56,9 @@ isTake x = elim (deed x) [ puts-host ↦ false | puts-status ↦ false | takes �
 abbrev pub isEnd : Event → Bool
 isEnd x = elim (deed x) [ puts-host ↦ false | puts-status ↦ false | takes ↦ false | ends ↦ true | neither ↦ false ]
 
+-- The host's own write, or one through the chip's data out (document 02, Q-6).
 abbrev pub isWrite : Call → Bool
-isWrite (call-of.Of p a) = eqb (actNumber a) 2
+isWrite (call-of.Of p a) = eqb (actNumber a) 2 || eqb (actNumber a) 14
 isWrite call-of.Lines = false
 isWrite call-of.Drivers = false
 

@@ -3,6 +3,7 @@
 ghost use mathlib.Core.Path.{_≡_};
 ghost use Rattle.bus.specs.Machine.{call};
 ghost use Rattle.bus.specs.Drivers.{drivers};
+ghost use Rattle.registers.specs.Registers.{standsFor};
 use crate::Answer;
 use crate::Bus;
 use crate::Drivers;
@@ -15,6 +16,7 @@ use parties::sweeping::sweep_of;
 use party::Place;
 use refusals::is_inside;
 use refusals::judge;
+use registers::Access;
 
 impl Bus {
     // Any operation other than build.
@@ -130,6 +132,19 @@ impl Bus {
         ensures { λ r. ⌜ r ≡ call self (Call.Of p (Act.SecondRequest on)) ⌝ }
     {
         self.call(Call::Of(p, Act::SecondRequest(on)))
+    }
+
+    // What the chip's host reads of its party's register at an offset.
+    pub fn read_register(self, p: Place, offset: u8) -> Answer
+        ensures { λ r. ⌜ r ≡ call self (Call.Of p (standsFor (Access.Read offset))) ⌝ }
+    {
+        self.call(Call::Of(p, Access::Read(offset).stands_for()))
+    }
+
+    pub fn write_register(self, p: Place, offset: u8, value: u8) -> Answer
+        ensures { λ r. ⌜ r ≡ call self (Call.Of p (standsFor (Access.Write offset value))) ⌝ }
+    {
+        self.call(Call::Of(p, Access::Write(offset, value).stands_for()))
     }
 
     // Who drives each line, and how many.

@@ -18,7 +18,7 @@ placeOf call-of.Drivers = place 0
 abbrev pub isOn : ℕ → Bool
 isOn x = eqb x 1
 
--- The table of refusals; 0 is no refusal.
+-- The table of refusals; 0 is no refusal. Document 02, Q-6: 11 NOREG.
 abbrev pub refusalNumber : Refusal → ℕ
 refusalNumber ruling.Accepted = 0
 refusalNumber ruling.NoParty = 1
@@ -31,11 +31,13 @@ refusalNumber ruling.Standing = 7
 refusalNumber ruling.Full = 8
 refusalNumber ruling.Empty = 9
 refusalNumber ruling.Record = 10
+refusalNumber ruling.NoReg = 11
 
 abbrev pub isAccepted : Refusal → Bool
 isAccepted r = eqb (refusalNumber r) 0
 
--- "Operations, decimal": those that name a party. Document 02, Q-5: 13 second request.
+-- "Operations, decimal": those that name a party. Document 02, Q-5: 13 second request. From 14 on they are what the
+-- chip's registers ask for (Q-6), and no operation of a script.
 abbrev pub actNumber : Act → ℕ
 actNumber act-of.Step = 1
 actNumber (act-of.Write v e) = 2
@@ -49,3 +51,8 @@ actNumber act-of.InterfaceClear = 9
 actNumber act-of.Reset = 10
 actNumber act-of.Drop = 11
 actNumber (act-of.SecondRequest on) = 13
+actNumber (act-of.DataOut v) = 14
+actNumber act-of.MarkEnd = 15
+actNumber act-of.BusStatus = 16
+actNumber act-of.DoNothing = 17
+actNumber act-of.NoRegister = 18

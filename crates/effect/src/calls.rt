@@ -22,6 +22,7 @@ impl Refusal {
             Refusal::Full => 8,
             Refusal::Empty => 9,
             Refusal::Record => 10,
+            Refusal::NoReg => 11,
         }
     }
 

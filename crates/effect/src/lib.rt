@@ -34,6 +34,7 @@ pub enum Refusal {
     Full,
     Empty,
     Record,
+    NoReg,
 }
 
 // What a host may ask of a party, with its arguments as they come: a byte, a switch or an END.
@@ -50,6 +51,13 @@ pub enum Act {
     Reset,
     Drop,
     SecondRequest(u8),
+    // What the chip's registers ask for beside these: the byte with END from the mark, the mark for the next one, the
+    // lines as its party reads them, what is accepted and does nothing, and what is not carried.
+    DataOut(u8),
+    MarkEnd,
+    BusStatus,
+    DoNothing,
+    NoRegister,
 }
 
 // The operations other than build: those of a party, and those of the whole bus.

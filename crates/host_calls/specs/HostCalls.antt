@@ -2,8 +2,9 @@
 -- party. None of them changes what stands.
 -- Assumes nothing.
 use Prim.Native.Nat.{ℕ}
-use mathlib.Core.Bool.{Bool, false, cond}
+use mathlib.Core.Bool.{Bool, true, false, cond}
 use Rattle.party.specs.Parts.{heldBytes, withRole, withAcceptor, withHeld, withInput, withRequest}
+use Rattle.party.specs.Parts.{withLatches}
 use Rattle.role.specs.Roles.{withFlags}
 use Rattle.service.specs.Service.{withSaved, withRsv2}
 use Rattle.party.specs.Driving.{isActive}
@@ -18,6 +19,18 @@ use Rattle.effect.specs.Effects.{say, then, quiet}
 -- "Write data (byte, END): held."
 abbrev pub write : ℕ → Bool → View → Outcome
 write x e v = quiet 0 (withHeld (Full x e) (v .party))
+
+-- The party with the mark for its next byte on or off.
+abbrev pub markedEnd : Bool → Party → Party
+markedEnd on p = withLatches (record { feoi = on }) p
+
+-- "feoi marks the next byte whose write through offset 7 is accepted" (document 02, Q-6): that write, with END from the
+-- mark, uses it up.
+abbrev pub dataOut : ℕ → View → Outcome
+dataOut x v = let p = v .party in quiet 0 (markedEnd false (withHeld (Full x (p .latches .feoi)) p))
+
+abbrev pub markEnd : View → Outcome
+markEnd v = quiet 0 (markedEnd true (v .party))
 
 -- "Read data: gives data-in, empties it."
 abbrev pub readOut : Slot → Party → Outcome

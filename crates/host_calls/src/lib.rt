@@ -2,7 +2,7 @@
 ghost use mathlib.Core.Path.{_≡_};
 ghost use Rattle.host_calls.specs.HostCalls.{write, read, requested, pollRegister, secondRequest, listenAcceptor};
 ghost use Rattle.host_calls.specs.HostCalls.{listenOnly, talkOnly, controlled, dropHeld, resetAcceptor, reset};
-ghost use Rattle.host_calls.specs.HostCalls.{clear, tell};
+ghost use Rattle.host_calls.specs.HostCalls.{clear, tell, markedEnd, dataOut, markEnd};
 use effect::After;
 use effect::Outcome;
 use effect::Said;
@@ -12,6 +12,7 @@ use offer::Slot;
 use parties::Lines;
 use party::Acceptor;
 use party::Control;
+use party::Latches;
 use party::Party;
 use service::Request;
 
@@ -20,6 +21,29 @@ pub fn write(byte: u8, end: bool, v: View) -> Outcome
 {
     let p = v.party;
     Outcome::quiet(0, p.with_held(Slot::Full(byte, end)))
+}
+
+// The party with the mark for its next byte on or off.
+fn marked_end(on: bool, p: Party) -> Party
+    ensures { λ r. ⌜ r ≡ markedEnd on p ⌝ }
+{
+    p.with_latches(Latches { feoi: on })
+}
+
+// The byte with END from the mark, which is used up.
+pub fn data_out(byte: u8, v: View) -> Outcome
+    ensures { λ r. ⌜ r ≡ dataOut byte v ⌝ }
+{
+    let p = v.party;
+    let latches = p.latches;
+    Outcome::quiet(0, marked_end(false, p.with_held(Slot::Full(byte, latches.feoi))))
+}
+
+pub fn mark_end(v: View) -> Outcome
+    ensures { λ r. ⌜ r ≡ markEnd v ⌝ }
+{
+    let p = v.party;
+    Outcome::quiet(0, marked_end(true, p))
 }
 
 pub fn read(v: View) -> Outcome

@@ -7,9 +7,10 @@ use Rattle.names.specs.Names.{plain}
 use Rattle.role.specs.Roles.{unaddressed}
 use Rattle.offer.specs.Offer.{isFull}
 use Rattle.party.specs.Types.{Name, Role, Request, Party, Control, Source, Acceptor, Slot, Idle, Sids, Aids}
-use Rattle.party.specs.Types.{Empty, Nprs}
+use Rattle.party.specs.Types.{Latches, Empty, Nprs}
 
--- "All flags are off, control idle, SIDS, AIDS, nothing held, poll registers 0, NPRS."
+-- "All flags are off, control idle, SIDS, AIDS, nothing held, poll registers 0, NPRS." No byte is marked (document 02,
+-- Q-6).
 abbrev pub builtParty : Name → Party
 builtParty n = record {
   role = unaddressed n;
@@ -19,6 +20,7 @@ builtParty n = record {
   held = Empty;
   input = Empty;
   request = record { live = 0; saved = 0; rsv2 = false; service = Nprs };
+  latches = record { feoi = false };
 }
 
 -- The idle party: "its address is 0".
@@ -43,6 +45,7 @@ withRole r p = record {
   held = p .held;
   input = p .input;
   request = p .request;
+  latches = p .latches;
 }
 
 abbrev pub withControl : Control → Party → Party
@@ -54,6 +57,7 @@ withControl c p = record {
   held = p .held;
   input = p .input;
   request = p .request;
+  latches = p .latches;
 }
 
 abbrev pub withSource : Source → Party → Party
@@ -65,6 +69,7 @@ withSource s p = record {
   held = p .held;
   input = p .input;
   request = p .request;
+  latches = p .latches;
 }
 
 abbrev pub withAcceptor : Acceptor → Party → Party
@@ -76,6 +81,7 @@ withAcceptor a p = record {
   held = p .held;
   input = p .input;
   request = p .request;
+  latches = p .latches;
 }
 
 abbrev pub withHeld : Slot → Party → Party
@@ -87,6 +93,7 @@ withHeld s p = record {
   held = s;
   input = p .input;
   request = p .request;
+  latches = p .latches;
 }
 
 abbrev pub withInput : Slot → Party → Party
@@ -98,6 +105,7 @@ withInput s p = record {
   held = p .held;
   input = s;
   request = p .request;
+  latches = p .latches;
 }
 
 abbrev pub withRequest : Request → Party → Party
@@ -109,4 +117,17 @@ withRequest q p = record {
   held = p .held;
   input = p .input;
   request = q;
+  latches = p .latches;
+}
+
+abbrev pub withLatches : Latches → Party → Party
+withLatches l p = record {
+  role = p .role;
+  control = p .control;
+  source = p .source;
+  acceptor = p .acceptor;
+  held = p .held;
+  input = p .input;
+  request = p .request;
+  latches = l;
 }

@@ -8,7 +8,7 @@ use Rattle.service.specs.Service.{requestSettled, withRsv2}
 use Rattle.party.specs.Types.{Party, Control, Empty, Unmarked, Source, Sids, Sgns, Sdys, Strs, Acceptor, Aids}
 use Rattle.party.specs.Types.{Anrs, Idle}
 use Rattle.party.specs.Parts.{withRole, withControl, withSource, withAcceptor, withHeld, withRequest, heldBytes}
-use Rattle.party.specs.Parts.{withInput}
+use Rattle.party.specs.Parts.{withInput, withLatches}
 use Rattle.party.specs.Driving.{active, isActive}
 use Rattle.party.specs.Sending.{isSource, isPolled}
 
@@ -39,10 +39,11 @@ settled atn p = withRequest (requestSettled (isPolled atn p) (p .request))
     (withSource (sourceSettled (isSource atn p) (p .source)) p)
 
 -- "Reset: flags off, control idle, held byte dropped, data-in emptied, poll register kept". Document 02, Q-3: it clears
--- the marks too, "and so do reset, interface clear"; Q-5: "Reset clears rsv2."
+-- the marks too, "and so do reset, interface clear"; Q-5: "Reset clears rsv2."; Q-6: "reset removes an unused mark".
 abbrev pub wiped : Party → Party
 wiped p = withRole (unaddressed (p .role .name))
-    (withControl Idle (withHeld Empty (withInput Empty (withRequest (withRsv2 false (p .request)) p))))
+    (withControl Idle (withHeld Empty (withInput Empty (withRequest (withRsv2 false (p .request))
+    (withLatches (record { feoi = false }) p)))))
 
 -- "Interface clear: talk, listen and poll mode off everywhere, all control idle": a party that stops being active loses
 -- its held byte.

@@ -15,4 +15,5 @@ pub use Rattle.names.specs.declared.Name.{Name}
 pub use Rattle.role.specs.declared.Mark.the-variants.{Unmarked}
 pub use Rattle.role.specs.declared.Role.{Role}
 pub use Rattle.service.specs.declared.Request.{Request}
+pub use Rattle.party.specs.declared.Latches.{Latches}
 pub use Rattle.party.specs.declared.Party.{Party}

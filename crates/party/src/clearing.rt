@@ -4,6 +4,7 @@ ghost use Prim.Native.Nat.{_≤_};
 ghost use Rattle.party.specs.Parts.{one, heldBytes};
 ghost use Rattle.party.specs.Settling.{wiped, cleared, clearDrops, changeControl};
 use crate::Control;
+use crate::Latches;
 use crate::Party;
 use offer::Slot;
 use role::Role;
@@ -38,7 +39,8 @@ impl Party {
         let role = self.role;
         let name = role.name;
         let request = self.request;
-        let p = self.with_request(request.with_rsv2(false))
+        let p = self.with_latches(Latches { feoi: false })
+            .with_request(request.with_rsv2(false))
             .with_input(Slot::Empty);
         p.with_held(Slot::Empty)
             .with_control(Control::Idle)

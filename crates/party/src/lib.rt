@@ -40,6 +40,12 @@ pub enum Acceptor {
     Awns,
 }
 
+// What the host sets aside in its party for later. No command and no step touches it.
+pub struct Latches {
+    // The chip's feoi: the next byte that is written through its data out register has END.
+    pub feoi: bool,
+}
+
 pub struct Party {
     pub role: Role,
     pub control: Control,
@@ -49,6 +55,7 @@ pub struct Party {
     // The data-in byte.
     pub input: Slot,
     pub request: Request,
+    pub latches: Latches,
 }
 
 impl Party {
@@ -61,6 +68,7 @@ impl Party {
         held: Slot::Empty,
         input: Slot::Empty,
         request: Request::IDLE,
+        latches: Latches { feoi: false },
     };
 
     // The party that a build gives this name.

@@ -1,9 +1,10 @@
 // A party with one part changed: the only functions that name all of its fields.
 ghost use mathlib.Core.Path.{_≡_};
 ghost use Rattle.party.specs.Parts.{withRole, withControl, withSource, withAcceptor, withHeld, withInput};
-ghost use Rattle.party.specs.Parts.{withRequest};
+ghost use Rattle.party.specs.Parts.{withRequest, withLatches};
 use crate::Acceptor;
 use crate::Control;
+use crate::Latches;
 use crate::Party;
 use crate::Source;
 use offer::Slot;
@@ -22,6 +23,7 @@ impl Party {
             held,
             input,
             request,
+            latches,
         } = self;
         Party {
             role,
@@ -31,6 +33,7 @@ impl Party {
             held,
             input,
             request,
+            latches,
         }
     }
 
@@ -45,6 +48,7 @@ impl Party {
             held,
             input,
             request,
+            latches,
         } = self;
         Party {
             role,
@@ -54,6 +58,7 @@ impl Party {
             held,
             input,
             request,
+            latches,
         }
     }
 
@@ -68,6 +73,7 @@ impl Party {
             held,
             input,
             request,
+            latches,
         } = self;
         Party {
             role,
@@ -77,6 +83,7 @@ impl Party {
             held,
             input,
             request,
+            latches,
         }
     }
 
@@ -91,6 +98,7 @@ impl Party {
             held,
             input,
             request,
+            latches,
         } = self;
         Party {
             role,
@@ -100,6 +108,7 @@ impl Party {
             held,
             input,
             request,
+            latches,
         }
     }
 
@@ -114,6 +123,7 @@ impl Party {
             held: _,
             input,
             request,
+            latches,
         } = self;
         Party {
             role,
@@ -123,6 +133,7 @@ impl Party {
             held,
             input,
             request,
+            latches,
         }
     }
 
@@ -137,6 +148,7 @@ impl Party {
             held,
             input: _,
             request,
+            latches,
         } = self;
         Party {
             role,
@@ -146,6 +158,7 @@ impl Party {
             held,
             input,
             request,
+            latches,
         }
     }
 
@@ -160,6 +173,7 @@ impl Party {
             held,
             input,
             request: _,
+            latches,
         } = self;
         Party {
             role,
@@ -169,6 +183,32 @@ impl Party {
             held,
             input,
             request,
+            latches,
+        }
+    }
+
+    pub fn with_latches(self, latches: Latches) -> Party
+        ensures { λ r. ⌜ r ≡ withLatches latches self ⌝ }
+    {
+        let Party {
+            role,
+            control,
+            source,
+            acceptor,
+            held,
+            input,
+            request,
+            latches: _,
+        } = self;
+        Party {
+            role,
+            control,
+            source,
+            acceptor,
+            held,
+            input,
+            request,
+            latches,
         }
     }
 }

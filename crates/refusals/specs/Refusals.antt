@@ -26,6 +26,10 @@ inStandby Idle = false
 inStandby Standby = true
 inStandby Active = false
 
+-- "FULL: write with a byte held"
+abbrev pub writeRefusal : View → Refusal
+writeRefusal v = cond (isFull (v .party .held)) ruling.Full ruling.Accepted
+
 -- "ROLE: .. listen-only on while talk is on"
 abbrev pub listenRefusal : Bool → Bool → Refusal
 listenRefusal on talk = cond on (cond talk ruling.Role ruling.Accepted) ruling.Accepted
@@ -46,8 +50,7 @@ standbyRefusal active sends = cond active (cond sends ruling.Standing ruling.Acc
 -- What a call of a party meets once it is there, or Accepted.
 abbrev pub own : View → Act → Refusal
 own v act-of.Step = ruling.Accepted
--- "FULL: write with a byte held"
-own v (act-of.Write x e) = ofSwitch e (cond (isFull (v .party .held)) ruling.Full ruling.Accepted)
+own v (act-of.Write x e) = ofSwitch e (writeRefusal v)
 -- "EMPTY: read with no data-in"
 own v act-of.Read = cond (isFull (v .party .input)) ruling.Accepted ruling.Empty
 own v (act-of.PollRegister x) = ruling.Accepted
@@ -62,6 +65,12 @@ own v act-of.InterfaceClear = cond (v .chief) ruling.Accepted ruling.Role
 own v act-of.Reset = cond (sends v) ruling.Standing ruling.Accepted
 own v act-of.Drop = ruling.Accepted
 own v (act-of.SecondRequest on) = ofSwitch on ruling.Accepted
+own v (act-of.DataOut x) = writeRefusal v
+own v act-of.MarkEnd = ruling.Accepted
+own v act-of.BusStatus = ruling.Accepted
+own v act-of.DoNothing = ruling.Accepted
+-- "11 NOREG for any other offset or auxiliary code, after NOPARTY and before the rest" (document 02, Q-6)
+own v act-of.NoRegister = ruling.NoReg
 
 -- "Order: .. 1, values, then 4 to 9." Lines and drivers name no party, and meet nothing.
 abbrev pub judge : View → Call → Refusal

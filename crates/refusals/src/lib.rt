@@ -2,7 +2,7 @@
 ghost use mathlib.Core.Path.{_≡_};
 ghost use mathlib.Core.Bool.{cond};
 ghost use Rattle.refusals.specs.Refusals.{isInside, inStandby, listenRefusal, talkRefusal, standbyRefusal, own};
-ghost use Rattle.refusals.specs.Refusals.{judge};
+ghost use Rattle.refusals.specs.Refusals.{judge, writeRefusal};
 use effect::Act;
 use effect::Call;
 use effect::Refusal;
@@ -33,6 +33,14 @@ fn in_standby(control: Control) -> bool
         Control::Standby => true,
         Control::Active => false,
     }
+}
+
+fn write_refusal(v: View) -> Refusal
+    ensures { λ r. ⌜ r ≡ writeRefusal v ⌝ }
+{
+    let p = v.party;
+    let held = p.held;
+    when(held.is_full(), Refusal::Full, Refusal::Accepted)
 }
 
 fn listen_refusal(on: bool, talk: bool) -> Refusal
@@ -92,15 +100,10 @@ fn own(a: Act, v: View) -> Refusal
     let p = v.party;
     let role = p.role;
     let control = p.control;
-    let held = p.held;
     let input = p.input;
     match a {
         Act::Step => Refusal::Accepted,
-        Act::Write(_, e) => when(
-            1 < e,
-            Refusal::BadValue,
-            when(held.is_full(), Refusal::Full, Refusal::Accepted),
-        ),
+        Act::Write(_, e) => when(1 < e, Refusal::BadValue, write_refusal(v)),
         Act::Read => when(input.is_full(), Refusal::Accepted, Refusal::Empty),
         Act::PollRegister(_) => Refusal::Accepted,
         Act::ListenOnly(on) => when(
@@ -115,6 +118,11 @@ fn own(a: Act, v: View) -> Refusal
         Act::Reset => when(st.sends_command(i), Refusal::Standing, Refusal::Accepted),
         Act::Drop => Refusal::Accepted,
         Act::SecondRequest(on) => when(1 < on, Refusal::BadValue, Refusal::Accepted),
+        Act::DataOut(_) => write_refusal(v),
+        Act::MarkEnd => Refusal::Accepted,
+        Act::BusStatus => Refusal::Accepted,
+        Act::DoNothing => Refusal::Accepted,
+        Act::NoRegister => Refusal::NoReg,
     }
 }
 

@@ -1,0 +1,3 @@
+-- What an access to a register of the chip stands for.
+pub mod Types
+pub mod Registers
