@@ -36,7 +36,10 @@ pub fn data_out(byte: u8, v: View) -> Outcome
 {
     let p = v.party;
     let latches = p.latches;
-    Outcome::quiet(0, marked_end(false, p.with_held(Slot::Full(byte, latches.feoi))))
+    Outcome::quiet(
+        0,
+        marked_end(false, p.with_held(Slot::Full(byte, latches.feoi))),
+    )
 }
 
 pub fn mark_end(v: View) -> Outcome

@@ -11,7 +11,7 @@ use Rattle.image.specs.Image.{hasSecondary, secondaryNumber, markNumber,
 use Rattle.image.specs.Image.{acceptorNumber, serviceNumber, slotValue, slotEnd, rowOf, standingOf, byteAt}
 use Rattle.image.specs.Image.{busWith}
 
-pub row-by-parts : (p : Party) {a₁ a₂ a₃ a₄ a₅ a₆ a₇ a₈ a₉ a₁₀ a₁₁ a₁₂ a₁₅ a₁₆ a₁₇ a₁₈ a₁₉ : ℕ}
+pub row-by-parts : (p : Party) {a₁ a₂ a₃ a₄ a₅ a₆ a₇ a₈ a₉ a₁₀ a₁₁ a₁₂ a₁₅ a₁₆ a₁₇ a₁₈ a₁₉ a₂₀ : ℕ}
     → a₁ ≡ one (p .role .talk)
     → a₂ ≡ one (p .role .listen)
     → a₃ ≡ one (p .role .poll)
@@ -29,9 +29,10 @@ pub row-by-parts : (p : Party) {a₁ a₂ a₃ a₄ a₅ a₆ a₇ a₈ a₉ a�
     → a₁₇ ≡ secondaryNumber (p .role .name .secondary)
     → a₁₈ ≡ markNumber (p .role .mark)
     → a₁₉ ≡ one (p .request .rsv2)
+    → a₂₀ ≡ one (p .latches .feoi)
     → _≡_ {A = List ℕ} (p .role .name .address .0 ∷ a₁ ∷ a₂ ∷ a₃ ∷ a₄ ∷ a₅ ∷ a₆ ∷ a₇ ∷ a₈ ∷ a₉ ∷ a₁₀ ∷ a₁₁ ∷ a₁₂ ∷ p
-    .request .live ∷ p .request .saved ∷ a₁₅ ∷ a₁₆ ∷ a₁₇ ∷ a₁₈ ∷ a₁₉ ∷ 0 ∷ 0 ∷ 0 ∷ 0 ∷ []) (rowOf p)
-row-by-parts p e₁ e₂ e₃ e₄ e₅ e₆ e₇ e₈ e₉ e₁₀ e₁₁ e₁₂ e₁₅ e₁₆ e₁₇ e₁₈ e₁₉ = cc
+    .request .live ∷ p .request .saved ∷ a₁₅ ∷ a₁₆ ∷ a₁₇ ∷ a₁₈ ∷ a₁₉ ∷ a₂₀ ∷ 0 ∷ 0 ∷ 0 ∷ []) (rowOf p)
+row-by-parts p e₁ e₂ e₃ e₄ e₅ e₆ e₇ e₈ e₉ e₁₀ e₁₁ e₁₂ e₁₅ e₁₆ e₁₇ e₁₈ e₁₉ e₂₀ = cc
 
 pub bus-by-parts : (ps : List Party) (r : List ℕ) {s : Standing}
     → s ≡ standingOf (byteAt r 2) (byteAt r 3) (byteAt r 4) (byteAt r 5)

@@ -108,7 +108,8 @@ rowOf p =
     ∷ secondaryNumber (p .role .name .secondary)
     ∷ markNumber (p .role .mark)
     ∷ one (p .request .rsv2)
-    ∷ 0 ∷ 0 ∷ 0 ∷ 0 ∷ []
+    ∷ one (p .latches .feoi)
+    ∷ 0 ∷ 0 ∷ 0 ∷ []
 
 -- The last row: the number of parties, the system party, and what stands.
 abbrev pub lastRow : Bus → List ℕ
@@ -186,6 +187,7 @@ partyOf r = record {
     rsv2 = flag (byteAt r 19);
     service = serviceOf (byteAt r 15);
   };
+  latches = record { feoi = flag (byteAt r 20) };
 }
 
 -- The bus with these parties, and the rest from the last row.

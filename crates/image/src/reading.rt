@@ -14,6 +14,7 @@ use offer::Kind;
 use offer::Slot;
 use party::Acceptor;
 use party::Control;
+use party::Latches;
 use party::Party;
 use party::Place;
 use party::Source;
@@ -155,6 +156,9 @@ fn party_of(row: [u8; 24]) -> Party
         held: slot_of(row[7], row[8], row[9]),
         input: slot_of(row[10], row[11], row[12]),
         request,
+        latches: Latches {
+            feoi: flag(row[20]),
+        },
     }
 }
 

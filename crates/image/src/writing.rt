@@ -5,6 +5,7 @@ ghost use Rattle.image.specs.Image.{acceptorNumber, serviceNumber, kindN
 ghost use Rattle.image.specs.Image.{standingTag, standingSender, standingValue, rowOf, lastRow, rowsOf};
 use bus::Bus;
 use effect::Standing;
+use names::Name;
 use names::Secondary;
 use offer::Kind;
 use offer::Slot;
@@ -26,21 +27,23 @@ fn mark_number(m: Mark) -> u8
     }
 }
 
-fn has_secondary(s: Secondary) -> bool
-    ensures { λ r. ⌜ r ≡ hasSecondary s ⌝ }
+fn has_secondary(n: Name) -> bool
+    ensures { λ r. ⌜ r ≡ hasSecondary (n .secondary) ⌝ }
 {
+    let s = n.secondary;
     match s {
         Secondary::Absent => false,
         Secondary::Given(_) => true,
     }
 }
 
-fn secondary_number(s: Secondary) -> u8
-    ensures { λ r. ⌜ r ≡ secondaryNumber s ⌝ }
+fn secondary_number(n: Name) -> u8
+    ensures { λ r. ⌜ r ≡ secondaryNumber (n .secondary) ⌝ }
 {
+    let s = n.secondary;
     match s {
         Secondary::Absent => 0,
-        Secondary::Given(n) => n.0,
+        Secondary::Given(own) => own.0,
     }
 }
 
@@ -162,8 +165,6 @@ fn row_of(p: Party) -> [u8; 24]
 {
     let role = p.role;
     let name = role.name;
-    let address = name.address;
-    let secondary = name.secondary;
     let mark = role.mark;
     let control = p.control;
     let source = p.source;
@@ -173,7 +174,7 @@ fn row_of(p: Party) -> [u8; 24]
     let request = p.request;
     let service = request.service;
     [
-        address.0,
+        name.address.0,
         one(role.talk),
         one(role.listen),
         one(role.poll),
@@ -189,11 +190,11 @@ fn row_of(p: Party) -> [u8; 24]
         request.live,
         request.saved,
         service_number(service),
-        one(has_secondary(secondary)),
-        secondary_number(secondary),
+        one(has_secondary(name)),
+        secondary_number(name),
         mark_number(mark),
         one(request.rsv2),
-        0,
+        one(p.latches.feoi),
         0,
         0,
         0,

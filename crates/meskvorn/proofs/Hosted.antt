@@ -1,7 +1,7 @@
 -- A bus that is kept as rows between the calls is the machine's bus.
 -- Assumes nothing.
 use Prim.Native.Nat.{ℕ}
-use mathlib.Core.Path.{_≡_, refl, sym, ap, _∙_}
+use mathlib.Core.Path.{_≡_, refl, sym, ap, _∙_, subst}
 use mathlib.Core.Bool.{false}
 use mathlib.Core.List.{List, [], _∷_}
 use lib.ListN.{length}
@@ -11,6 +11,10 @@ use Rattle.bus.specs.declared.Drivers.{Drivers}
 use Rattle.bus.specs.Record.{buildExtended}
 use Rattle.bus.specs.Drivers.{drivers}
 use Rattle.role.proofs.Logic.{test}
+use Rattle.parties.specs.Places.{place}
+use Rattle.registers.specs.Registers.{standsFor}
+use Rattle.effect.specs.declared.Call.the-variants as call-of
+use Rattle.bus.proofs.Reached.{refused-leaves}
 use Rattle.effect.specs.declared.Refusal.{Refusal}
 use Rattle.effect.specs.Calls.{isAccepted, refusalNumber}
 use Rattle.runner.specs.declared.Given.{Given}
@@ -18,18 +22,15 @@ use Rattle.image.specs.Image.{rowsOf, busOf}
 use Rattle.image.proofs.Kept.{read-back}
 use Rattle.meskvorn.specs.Packing.{packed}
 use Rattle.meskvorn.specs.Host.{rowsAfter, Replied, Built, Gave, maskList, countList, Counted}
-use Rattle.meskvorn.specs.Hosted.{answerOf, turnsGiven, Asked, call, run, drivers-of-lines, Reply, answer, turns}
-use Rattle.meskvorn.specs.Hosted.{driven, Handed, none, called, ran, asked, Same, Hosted, HostedFromBuild}
-use Rattle.meskvorn.proofs.Sizes.{answer-size, turns-size, drivers-size, build-size}
+use Rattle.meskvorn.specs.Hosted.{Op, by-number, by-register, answerOf, turnsGiven, Asked, call, run, Reply, answer}
+use Rattle.meskvorn.specs.Hosted.{turns, drivers-of-lines, driven, Handed, none, called, ran, asked, Same, Hosted, HostedFromBuild}
+use Rattle.meskvorn.proofs.Sizes.{call-size, answer-size, turns-size, drivers-size, build-size}
 use Rattle.meskvorn.proofs.Refused.{answer-leaves, turns-leave}
 
 -- What is said of an answer is said of its equal.
-pub replied : {a e : Answer} {before after : List (List ℕ)} {n : ℕ} → a ≡ e → n ≡ packed a
-    → after ≡ rowsAfter (a .refusal) (a .bus) before → Replied e before after n
-replied {before = before} q s r = record {
-  said = s ∙ ap packed q;
-  rows = r ∙ ap (λ (x : Answer). rowsAfter (x .refusal) (x .bus) before) q;
-}
+pub replied : {a e : Answer} {before after : List (List ℕ)} {n : ℕ} → a ≡ e → Replied a before after n
+    → Replied e before after n
+replied {before = before} {after = after} {n = n} q l = subst (λ (x : Answer). Replied x before after n) q l
 
 pub built : {a e : Answer} {after : List (List ℕ)} {n : ℕ} → a ≡ e → n ≡ packed a → after ≡ rowsOf (a .bus)
     → Built e after n
@@ -80,16 +81,23 @@ handed rows (drivers-of-lines ∷ xs) =
       (r .1 .0, asked (record { said = refl; who = refl; number = refl; rows = refl }) (r .1 .1)),
     )
 
+op-size : (b : Bus) (o : Op) → length (b .parties) ≡ 15 → length (answerOf b o .bus .parties) ≡ 15
+op-size b (by-number op party value extra) z = answer-size b op party value extra z
+op-size b (by-register party a) z = call-size b (call-of.Of (place party) (standsFor a)) z
+
+op-leaves : (b : Bus) (o : Op) → isAccepted (answerOf b o .refusal) ≡ false → answerOf b o .bus ≡ b
+op-leaves b (by-number op party value extra) = answer-leaves b op party value extra
+op-leaves b (by-register party a) = refused-leaves b (call-of.Of (place party) (standsFor a))
+
 -- By the list: the rows are those of a bus before each.
 go : {rows : List (List ℕ)} {xs : List Asked} {rs : List Reply} {last : List (List ℕ)} → Handed rows xs rs last
     → (b : Bus) → length (b .parties) ≡ 15 → rows ≡ rowsOf b → Same b xs rs last
 go none b z e = record { said = refl; rows = e }
 go (called {rows = rows} {o = o} l h) b z e =
     let read : busOf _ ≡ b = ap busOf e ∙ read-back b z in
-    let r = go h (answerOf b o .bus) (answer-size b (o .op) (o .party) (o .value) (o .extra) z)
+    let r = go h (answerOf b o .bus) (op-size b o z)
     (l .rows ∙ ap (λ (x : Bus). rowsAfter (answerOf x o .refusal) (answerOf x o .bus) rows) read
-    ∙ rows-next (answerOf b o .refusal) (answerOf b o .bus) b rows e
-    (answer-leaves b (o .op) (o .party) (o .value) (o .extra))) in
+    ∙ rows-next (answerOf b o .refusal) (answerOf b o .bus) b rows e (op-leaves b o)) in
     record { said = cc (l .said ∙ ap (λ (x : Bus). packed (answerOf x o)) read, r .said); rows = r .rows }
 go (ran {rows = rows} {t = t} l h) b z e =
     let read : busOf _ ≡ b = ap busOf e ∙ read-back b z in

@@ -56,7 +56,7 @@ followed-size after.Attend atn b i e h = simp (length-each, length-set) h
 followed-size after.Clear atn b i e h = simp (length-each, length-set) h
 
 -- an accepted call, and one that may be refused
-call-size : (b : Bus) (c : Call) → Full b → Full (call b c .bus)
+pub call-size : (b : Bus) (c : Call) → Full b → Full (call b c .bus)
 call-size b c h =
     let l = lines b in
     let i = placeOf c .0 in

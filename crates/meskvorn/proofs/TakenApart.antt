@@ -32,6 +32,7 @@ refusal-byte ruling.Standing = lit< tt
 refusal-byte ruling.Full = lit< tt
 refusal-byte ruling.Empty = lit< tt
 refusal-byte ruling.Record = lit< tt
+refusal-byte ruling.NoReg = lit< tt
 
 event-byte : (x : Event) → eventNumber x < 256
 event-byte ev.None = lit< tt

@@ -1,5 +1,6 @@
--- A list of operations, runs and questions who drives the lines, handed one by one to meskvorn_call, meskvorn_turns and
--- meskvorn_drivers with the rows that the last one left: the same as the machine does with its bus.
+-- A list of operations, accesses to registers, runs and questions who drives the lines, handed one by one to
+-- meskvorn_call, meskvorn_read_register, meskvorn_write_register, meskvorn_turns and meskvorn_drivers with the rows that
+-- the last one left: the same as the machine does with its bus.
 -- Assumes nothing.
 use Prim.Native.Nat.{ℕ}
 use mathlib.Core.Path.{_≡_}
@@ -7,6 +8,7 @@ use mathlib.Core.List.{List, [], _∷_}
 use lib.ListN.{length}
 use Rattle.names.specs.declared.Name.{Name}
 use Rattle.party.specs.declared.Place.{Place}
+use Rattle.registers.specs.declared.Access.{Access}
 use Rattle.bus.specs.declared.Bus.{Bus}
 use Rattle.bus.specs.declared.Answer.{Answer}
 use Rattle.bus.specs.Record.{buildExtended}
@@ -17,17 +19,17 @@ use Rattle.runner.specs.Waiting.{byPlace}
 use Rattle.runner.specs.Runner.{giveTurns}
 use Rattle.image.specs.Image.{rowsOf, busOf}
 use Rattle.meskvorn.specs.Packing.{packed}
-use Rattle.meskvorn.specs.Host.{answerByNumber, Replied, Built, Gave, maskList, countList, Counted}
+use Rattle.meskvorn.specs.Host.{answerByNumber, accessed, Replied, Built, Gave, maskList, countList, Counted}
 
--- An operation: the four numbers that meskvorn_call takes.
-pub record Op : Type 0 where
-  pub op : ℕ
-  pub party : ℕ
-  pub value : ℕ
-  pub extra : ℕ
+-- An operation by the four numbers that meskvorn_call takes (operation, party, value, extra), or an access to a register
+-- of a party.
+pub data Op : Type 0 where
+  by-number : ℕ → ℕ → ℕ → ℕ → Op
+  by-register : ℕ → Access → Op
 
 abbrev pub answerOf : Bus → Op → Answer
-answerOf b o = answerByNumber b (o .op) (o .party) (o .value) (o .extra)
+answerOf b (by-number op party value extra) = answerByNumber b op party value extra
+answerOf b (by-register party a) = accessed b party a
 
 -- What a host asks for: an operation, a run of so many turns, or who drives the lines; and what it is given: an
 -- answer's number, a refusal's with the counts of the places, or an answer's with the masks and the counts of the
@@ -61,7 +63,7 @@ replies b (drivers-of-lines ∷ xs) = driven (packed (drivers b .answer)) (maskL
     (countList (drivers b .counts)) ∷ replies (drivers b .answer .bus) xs
 
 -- A host asked for these, one by one, beginning with these rows; it was given these replies, and has the last rows.
--- Nothing is known of each but what meskvorn_call, meskvorn_turns and meskvorn_drivers ensure.
+-- Nothing is known of each but what the exported functions ensure.
 pub data Handed : List (List ℕ) → List Asked → List Reply → List (List ℕ) → Type 0 where
   none : {rows : List (List ℕ)} → Handed rows [] [] rows
   called : {rows next last : List (List ℕ)} {o : Op} {xs : List Asked} {n : ℕ} {rs : List Reply}

@@ -44,6 +44,11 @@ asked (call-of.Of i act-of.InterfaceClear) x q = q
 asked (call-of.Of i act-of.Reset) x q = withRsv2 false q
 asked (call-of.Of i act-of.Drop) x q = q
 asked (call-of.Of i (act-of.SecondRequest on)) x q = withRsv2 (isOn on) q
+asked (call-of.Of i (act-of.DataOut v)) x q = q
+asked (call-of.Of i act-of.MarkEnd) x q = q
+asked (call-of.Of i act-of.BusStatus) x q = q
+asked (call-of.Of i act-of.DoNothing) x q = q
+asked (call-of.Of i act-of.NoRegister) x q = q
 asked call-of.Lines x q = q
 asked call-of.Drivers x q = q
 
@@ -168,5 +173,10 @@ module _ (v : View) where
       (λ h. record { request = refl; follows = sym h })
   leaves (call-of.Of i act-of.Drop) = record { request = refl; follows = refl }
   leaves (call-of.Of i (act-of.SecondRequest on)) = record { request = refl; follows = refl }
+  leaves (call-of.Of i (act-of.DataOut x)) = record { request = refl; follows = refl }
+  leaves (call-of.Of i act-of.MarkEnd) = record { request = refl; follows = refl }
+  leaves (call-of.Of i act-of.BusStatus) = record { request = refl; follows = refl }
+  leaves (call-of.Of i act-of.DoNothing) = record { request = refl; follows = refl }
+  leaves (call-of.Of i act-of.NoRegister) = record { request = refl; follows = refl }
   leaves call-of.Lines = record { request = refl; follows = refl }
   leaves call-of.Drivers = record { request = refl; follows = refl }

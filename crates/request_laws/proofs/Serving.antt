@@ -146,6 +146,11 @@ asked-service (call-of.Of i act-of.InterfaceClear) x q = refl
 asked-service (call-of.Of i act-of.Reset) x q = refl
 asked-service (call-of.Of i act-of.Drop) x q = refl
 asked-service (call-of.Of i (act-of.SecondRequest on)) x q = refl
+asked-service (call-of.Of i (act-of.DataOut v)) x q = refl
+asked-service (call-of.Of i act-of.MarkEnd) x q = refl
+asked-service (call-of.Of i act-of.BusStatus) x q = refl
+asked-service (call-of.Of i act-of.DoNothing) x q = refl
+asked-service (call-of.Of i act-of.NoRegister) x q = refl
 asked-service call-of.Lines x q = refl
 asked-service call-of.Drivers x q = refl
 
@@ -191,6 +196,11 @@ asked-bit (call-of.Of i act-of.InterfaceClear) x q = inl refl
 asked-bit (call-of.Of i act-of.Reset) x q = inr (inl (inr refl))
 asked-bit (call-of.Of i act-of.Drop) x q = inl refl
 asked-bit (call-of.Of i (act-of.SecondRequest on)) x q = inr (inl (inl (on, refl)))
+asked-bit (call-of.Of i (act-of.DataOut v)) x q = inl refl
+asked-bit (call-of.Of i act-of.MarkEnd) x q = inl refl
+asked-bit (call-of.Of i act-of.BusStatus) x q = inl refl
+asked-bit (call-of.Of i act-of.DoNothing) x q = inl refl
+asked-bit (call-of.Of i act-of.NoRegister) x q = inl refl
 asked-bit call-of.Lines x q = inl refl
 asked-bit call-of.Drivers x q = inl refl
 

@@ -18,7 +18,7 @@ use Rattle.parties.proofs.Places.{total-zero}
 use Rattle.effect.specs.Calls.{isAccepted, placeOf, isOn}
 use Rattle.effect.specs.Stands.{stands, sends}
 use Rattle.effect.specs.Effects.{withStanding}
-use Rattle.refusals.specs.Refusals.{listenRefusal, talkRefusal, inStandby, own, judge}
+use Rattle.refusals.specs.Refusals.{writeRefusal, listenRefusal, talkRefusal, inStandby, own, judge}
 use Rattle.source_step.specs.SourceStep.{ready, ended, sourceIn}
 use Rattle.acceptor_step.specs.AcceptorStep.{takes, acceptorIn}
 use Rattle.host_calls.specs.HostCalls.{readOut}
@@ -102,6 +102,11 @@ effect-drops v (call-of.Of i act-of.Reset) =
     (λ _. held-one (v .party))
 effect-drops v (call-of.Of i act-of.Drop) = held-one (v .party)
 effect-drops v (call-of.Of i (act-of.SecondRequest on)) = none v
+effect-drops v (call-of.Of i (act-of.DataOut x)) = none v
+effect-drops v (call-of.Of i act-of.MarkEnd) = none v
+effect-drops v (call-of.Of i act-of.BusStatus) = none v
+effect-drops v (call-of.Of i act-of.DoNothing) = none v
+effect-drops v (call-of.Of i act-of.NoRegister) = none v
 effect-drops v call-of.Lines = none v
 effect-drops v call-of.Drivers = none v
 
@@ -170,10 +175,12 @@ either : (x : Bool) (r s : Refusal) → Other r → Other s → Other (cond x r 
 either true r s f g = f
 either false r s f g = g
 
+write-other : (v : View) → Other (writeRefusal v)
+write-other v = either (isFull (v .party .held)) _ _ (λ h. no (cc)) (λ h. no (cc))
+
 own-other : (v : View) (a : Act) → Other (own v a)
 own-other v act-of.Step = λ h. no (cc)
-own-other v (act-of.Write x e) = either (ltb 1 e) _ _ (λ h. no (cc))
-    (either (isFull (v .party .held)) _ _ (λ h. no (cc)) (λ h. no (cc)))
+own-other v (act-of.Write x e) = either (ltb 1 e) _ _ (λ h. no (cc)) (write-other v)
 own-other v act-of.Read = either (isFull (v .party .input)) _ _ (λ h. no (cc)) (λ h. no (cc))
 own-other v (act-of.PollRegister x) = λ h. no (cc)
 own-other v (act-of.ListenOnly on) = either (ltb 1 on) _ _ (λ h. no (cc))
@@ -189,6 +196,11 @@ own-other v act-of.InterfaceClear = either (v .chief) _ _ (λ h. no (cc)) (λ h.
 own-other v act-of.Reset = either (sends v) _ _ (λ h. no (cc)) (λ h. no (cc))
 own-other v act-of.Drop = λ h. no (cc)
 own-other v (act-of.SecondRequest on) = either (ltb 1 on) _ _ (λ h. no (cc)) (λ h. no (cc))
+own-other v (act-of.DataOut x) = write-other v
+own-other v act-of.MarkEnd = λ h. no (cc)
+own-other v act-of.BusStatus = λ h. no (cc)
+own-other v act-of.DoNothing = λ h. no (cc)
+own-other v act-of.NoRegister = λ h. no (cc)
 
 judge-other : (v : View) (c : Call) → Other (judge v c)
 judge-other v (call-of.Of i a) = either (v .inside) _ _ (own-other v a) (λ h. no (cc))

@@ -49,6 +49,7 @@ refusal-length R.Standing = lit≤ tt
 refusal-length R.Full = lit≤ tt
 refusal-length R.Empty = lit≤ tt
 refusal-length R.Record = lit≤ tt
+refusal-length R.NoReg = lit≤ tt
 
 end-length : (b : Bool) → length (decimalOf (one b)) ≤ 1
 unfolding decimalOf

@@ -8,10 +8,13 @@
 -- OnOffer. Whatever call comes, a party in SDYS whose byte is on offer afterwards is in SDYS: settling leaves it, and
 -- attention takes the byte off offer, or is not for that party to see.
 --
--- Named. No call changes a party's name, on any bus: whatever a call does, and whatever follows on it, leaves it.
+-- Kept. What a call leaves of names and latches, on any bus: whatever a call does, and whatever follows on it.
+--
+-- Named. So no call changes a party's name.
 -- Assumes nothing.
 pub mod Examples
 pub mod Local
 pub mod Noacc
 pub mod OnOffer
+pub mod Kept
 pub mod Named

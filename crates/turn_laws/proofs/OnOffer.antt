@@ -240,6 +240,11 @@ module _ (b : Bus) (I : Inv b) (p v : ℕ) (e : Bool) (k : Kind) (O : OnOffer b 
       (λ h. settle-stays (i .0) (withStanding (b .standing) (resetAs false (m.viewAt i (lines b) b))) refl)
   host-stays i act-of.Drop ok l n = settle-stays (i .0) (does i act-of.Drop) refl
   host-stays i (act-of.SecondRequest on) ok l n = settle-stays (i .0) (does i (act-of.SecondRequest on)) refl
+  host-stays i (act-of.DataOut x) ok l n = settle-stays (i .0) (does i (act-of.DataOut x)) refl
+  host-stays i act-of.MarkEnd ok l n = settle-stays (i .0) (does i act-of.MarkEnd) refl
+  host-stays i act-of.BusStatus ok l n = settle-stays (i .0) (does i act-of.BusStatus) refl
+  host-stays i act-of.DoNothing ok l n = settle-stays (i .0) (does i act-of.DoNothing) refl
+  host-stays i act-of.NoRegister ok l n = settle-stays (i .0) (does i act-of.NoRegister) refl
 
   judged : (i : Place) (a : Act) → (a ≡ act-of.Step → ⊥) → Stays (m.call b (call-of.Of i a))
   judged i a n = cond-elim Stays (isAccepted (m.refusal (lines b) b (call-of.Of i a)))
@@ -260,6 +265,11 @@ module _ (b : Bus) (I : Inv b) (p v : ℕ) (e : Bool) (k : Kind) (O : OnOffer b 
   call-stays (call-of.Of i act-of.Reset) = judged i act-of.Reset (λ h. no (cc))
   call-stays (call-of.Of i act-of.Drop) = judged i act-of.Drop (λ h. no (cc))
   call-stays (call-of.Of i (act-of.SecondRequest on)) = judged i (act-of.SecondRequest on) (λ h. no (cc))
+  call-stays (call-of.Of i (act-of.DataOut x)) = judged i (act-of.DataOut x) (λ h. no (cc))
+  call-stays (call-of.Of i act-of.MarkEnd) = judged i act-of.MarkEnd (λ h. no (cc))
+  call-stays (call-of.Of i act-of.BusStatus) = judged i act-of.BusStatus (λ h. no (cc))
+  call-stays (call-of.Of i act-of.DoNothing) = judged i act-of.DoNothing (λ h. no (cc))
+  call-stays (call-of.Of i act-of.NoRegister) = judged i act-of.NoRegister (λ h. no (cc))
   call-stays call-of.Lines = settle-stays 0 (effectOf (m.viewAt (placeOf call-of.Lines) (lines b) b) call-of.Lines) refl
   call-stays call-of.Drivers = settle-stays 0
       (effectOf (m.viewAt (placeOf call-of.Drivers) (lines b) b) call-of.Drivers) refl

@@ -4,8 +4,10 @@ use Rattle.refusals.proofs.write_refusal.Tie as tie
 
 returns : tie.Need-returns
 returns c =
-    simp (c .when .ensures,
-    c .before .is-full .ensures)
+    simp (
+      c .when .ensures,
+      c .before .is-full .ensures,
+    )
 
 pub write-refusal-spec : {M : Type 1} → statement M
 write-refusal-spec = tie.close (tie.spec

@@ -4,8 +4,10 @@ use Rattle.registers.proofs.commanded.Tie as tie
 
 returns : tie.Need-returns
 returns c =
-    simp (c .when-set .ensures,
-    c .before .enum-told .given .1)
+    simp (
+      c .when-set .ensures,
+      c .before .enum-told .given .1,
+    )
 
 returns-4 : tie.Need-returns-4
 returns-4 c =
@@ -17,8 +19,10 @@ returns-5 c =
 
 returns-8 : tie.Need-returns-8
 returns-8 c =
-    simp (c .when-set2 .ensures,
-    c .before .enum-told8 .given .1)
+    simp (
+      c .when-set2 .ensures,
+      c .before .enum-told8 .given .1,
+    )
 
 returns-9 : tie.Need-returns-9
 returns-9 c =

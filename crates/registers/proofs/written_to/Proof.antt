@@ -5,9 +5,11 @@ use Rattle.registers.proofs.written_to.Tie as tie
 
 returns : tie.Need-returns
 returns c =
-    simp (c .commanded .ensures,
-    c .before .auxiliary-of .ensures,
-    c .before .before .match .keys1)
+    simp (
+      c .commanded .ensures,
+      c .before .auxiliary-of .ensures,
+      c .before .before .match .keys1,
+    )
 
 returns-2 : tie.Need-returns-2
 returns-2 c =

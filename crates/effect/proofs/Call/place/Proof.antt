@@ -4,9 +4,11 @@ use Rattle.effect.proofs.Call.place.Tie as tie
 
 returns : tie.Need-returns
 returns c =
-    simp (c .known-told .given .1,
-    c .before .self .given .1,
-    c .before .before .match .keys1)
+    simp (
+      c .known-told .given .1,
+      c .before .self .given .1,
+      c .before .before .match .keys1,
+    )
 
 returns-2 : tie.Need-returns-2
 returns-2 c =

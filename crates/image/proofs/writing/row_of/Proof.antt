@@ -7,10 +7,11 @@ use Rattle.image.proofs.writing.row_of.Tie as tie
 
 returns : tie.Need-returns
 returns c =
-    let s = c .before .before .before .before .before in
+    let t = c .before in
+    let s = t .before .before .before .before .before in
     let h = s .before .before .before .before .before .before in
     let k = h .before .before .before .before .before in
-    row-by-parts (k .before .before .before .before .before .before .before .before .before .before .args .p)
+    row-by-parts (k .before .before .before .before .before .before .before .before .before .args .p)
     (k .before .before .before .before .before .one .ensures .0)
     (k .before .before .before .before .one2 .ensures .0)
     (k .before .before .before .one3 .ensures .0)
@@ -25,10 +26,11 @@ returns c =
     (s .before .before .before .slot-value2 .ensures)
     (s .before .one7 .ensures .0 ∙ ap one (s .before .before .slot-end2 .ensures))
     (s .service-number .ensures)
-    (c .before .before .before .one8 .ensures .0 ∙ ap one (c .before .before .before .before .has-secondary .ensures))
-    (c .before .before .secondary-number .ensures)
-    (c .before .mark-number .ensures)
-    (c .one9 .ensures .0)
+    (t .before .before .before .one8 .ensures .0 ∙ ap one (t .before .before .before .before .has-secondary .ensures))
+    (t .before .before .secondary-number .ensures)
+    (t .before .mark-number .ensures)
+    (t .one9 .ensures .0)
+    (c .one10 .ensures .0)
 
 pub row-of-spec : {M : Type 1} → statement M
 row-of-spec =
@@ -38,4 +40,4 @@ row-of-spec =
     (λ c κs. search needs) (λ c κs. search needs) (λ c κs. search needs) (λ c κs. search needs) (λ c κs. search needs)
     (λ c κs. search needs) (λ c κs. search needs) (λ c κs. search needs) (λ c κs. search needs) (λ c κs. search needs)
     (λ c κs. search needs) (λ c κs. search needs) (λ c κs. search needs) (λ c κs. search needs) (λ c κs. search needs)
-    (λ c κs. search needs) (λ c κs. search needs) returns)
+    (λ c κs. search needs) (λ c κs. search needs) (λ c κs. search needs) returns)

@@ -1,0 +1,204 @@
+-- What a call leaves of names and latches, on any bus. Hearing, interface clear, attention and settling leave both; a
+-- reset, feoi and a byte through data out change the latches of their own party.
+-- Assumes nothing.
+use mathlib.Core.Path.{_≡_, refl, sym, ap, _∙_}
+use mathlib.Core.Bool.{Bool, true, false, not, _||_}
+use mathlib.Core.List.{List}
+use Prim.Native.Nat.{ℕ}
+use lib.ListN.{set}
+use Rattle.message.specs.Meaning.{meaningOf}
+use Rattle.role.proofs.Logic.{cond-elim}
+use Rattle.role.specs.Roles.{roleHeard}
+use Rattle.role.proofs.Roles.{hear-name}
+use Rattle.offer.specs.Offer.{isFull, kindOf}
+use Rattle.party.specs.declared.Latches.{Latches}
+use Rattle.party.specs.Driving.{isActive}
+use Rattle.party.specs.Sending.{isSource, isPolled, offer}
+use Rattle.party.specs.Settling.{attended, settled, changeControl, cleared}
+use Rattle.parties.specs.Places.{at, some, each}
+use Rattle.parties.proofs.Places.{set-part, each-part}
+use Rattle.effect.specs.Calls.{placeOf}
+use Rattle.effect.specs.Stands.{ofCommand}
+use Rattle.effect.specs.Effects.{withStanding}
+use Rattle.source_step.specs.SourceStep.{ready, ended, sourceIn}
+use Rattle.acceptor_step.specs.AcceptorStep.{takes, acceptorIn}
+use Rattle.accepted.specs.Accepted.{step, effectOf}
+use Rattle.host_calls.specs.HostCalls.{readOut}
+use Rattle.bus.specs.Record.{here, lines}
+use Rattle.bus.specs.Settling.{followed}
+use Rattle.bus.specs.Machine as m
+use Rattle.bus.specs.declared.Bus.{Bus}
+use Rattle.bus.specs.Types.{Name, Party, Idle, Active, Source, Sids, Sgns, Sdys, Strs, Acceptor, Aids, Anrs, Acrs, Acds}
+use Rattle.bus.specs.Types.{Awns, Slot, Empty, Full, Kind, Standing, Nothing, Byte, Call, After, Outcome, Effect, View}
+use Rattle.bus.specs.Types.after
+use Rattle.bus.specs.Types.call-of
+use Rattle.bus.specs.Types.act-of
+
+abbrev pub kept : Party → Name × Latches
+kept p = (p .role .name, p .latches)
+
+hear-kept : (x : ℕ) (p : Party) → _≡_ {A = Name × Latches}
+    (roleHeard (meaningOf x) (p .role) .name, p .latches) (kept p)
+hear-kept x p = ap (λ (n : Name). (n, p .latches)) (hear-name (meaningOf x) (p .role))
+
+-- A step leaves both of its party.
+module _ (v : View) where
+  abbrev Same : Effect → Type 0
+  Same e = kept (e .party) ≡ kept (v .party)
+
+  ready-same : (o : Slot) (k : Kind) → Same (ready o k v)
+  ready-same Empty k = refl
+  ready-same (Full x e) k = cond-elim Same (v .lines .nrfd) (λ _. refl)
+      (λ _. cond-elim Same (v .lines .ndac) (λ _. refl) (λ _. refl))
+
+  ended-same : (st : Standing) → Same (ended st v)
+  ended-same Nothing = refl
+  ended-same (Byte s k x e) = cond-elim (λ (q : Party). kept q ≡ kept (v .party)) (ofCommand k)
+      (λ _. hear-kept x (v .party)) (λ _. refl)
+
+  source-same : (s : Source) (o : Slot) (k : Kind) → Same (sourceIn s o k v)
+  source-same Sids o k = refl
+  source-same Sgns o k = cond-elim Same (isFull o) (λ _. refl) (λ _. refl)
+  source-same Sdys o k = ready-same o k
+  source-same Strs o k = cond-elim Same (v .lines .ndac) (λ _. refl) (λ _. ended-same (v .standing))
+
+  takes-same : (st : Standing) → Same (takes st v)
+  takes-same Nothing = refl
+  takes-same (Byte s k x e) = cond-elim Same (v .lines .atn) (λ _. hear-kept x (v .party)) (λ _. refl)
+
+  acceptor-same : (a : Acceptor) → Same (acceptorIn a v)
+  acceptor-same Aids = refl
+  acceptor-same Anrs = cond-elim Same (v .lines .atn || not (isFull (v .party .input))) (λ _. refl) (λ _. refl)
+  acceptor-same Acrs = cond-elim Same (v .lines .dav) (λ _. takes-same (v .standing)) (λ _. refl)
+  acceptor-same Acds = refl
+  acceptor-same Awns = cond-elim Same (v .lines .dav) (λ _. refl) (λ _. refl)
+
+  step-same : Same (step v)
+  step-same = let t = v .lines .atn in let p = v .party in
+      cond-elim Same (isSource t p)
+      (λ _. source-same (p .source) (offer (isPolled t p) p) (kindOf (isActive p) (isPolled t p)))
+      (λ _. acceptor-same (p .acceptor))
+
+  -- what an act leaves: the name, and these latches
+  abbrev Latched : Latches → Effect → Type 0
+  Latched l e = kept (e .party) ≡ (v .party .role .name, l)
+
+  read-latched : (s : Slot) → Latched (v .party .latches) (withStanding (v .standing) (readOut s (v .party)))
+  read-latched Empty = refl
+  read-latched (Full x e) = refl
+
+-- the latches that an accepted call leaves its party with
+abbrev pub latched : Call → Latches → Latches
+latched (call-of.Of i act-of.Step) l = l
+latched (call-of.Of i (act-of.Write x e)) l = l
+latched (call-of.Of i act-of.Read) l = l
+latched (call-of.Of i (act-of.PollRegister x)) l = l
+latched (call-of.Of i (act-of.ListenOnly on)) l = l
+latched (call-of.Of i (act-of.TalkOnly on)) l = l
+latched (call-of.Of i act-of.TakeControl) l = l
+latched (call-of.Of i act-of.GoToStandby) l = l
+latched (call-of.Of i act-of.InterfaceClear) l = l
+latched (call-of.Of i act-of.Reset) l = record { feoi = false }
+latched (call-of.Of i act-of.Drop) l = l
+latched (call-of.Of i (act-of.SecondRequest on)) l = l
+latched (call-of.Of i (act-of.DataOut x)) l = record { feoi = false }
+latched (call-of.Of i act-of.MarkEnd) l = record { feoi = true }
+latched (call-of.Of i act-of.BusStatus) l = l
+latched (call-of.Of i act-of.DoNothing) l = l
+latched (call-of.Of i act-of.NoRegister) l = l
+latched call-of.Lines l = l
+latched call-of.Drivers l = l
+
+pub effect-kept : (v : View) (c : Call) → Latched v (latched c (v .party .latches)) (effectOf v c)
+effect-kept v (call-of.Of i act-of.Step) = step-same v
+effect-kept v (call-of.Of i (act-of.Write x e)) = refl
+effect-kept v (call-of.Of i act-of.Read) = read-latched v (v .party .input)
+effect-kept v (call-of.Of i (act-of.PollRegister x)) = refl
+effect-kept v (call-of.Of i (act-of.ListenOnly on)) = refl
+effect-kept v (call-of.Of i (act-of.TalkOnly on)) = refl
+effect-kept v (call-of.Of i act-of.TakeControl) = refl
+effect-kept v (call-of.Of i act-of.GoToStandby) = refl
+effect-kept v (call-of.Of i act-of.InterfaceClear) = refl
+effect-kept v (call-of.Of i act-of.Reset) = cond-elim
+    (λ (o : Outcome). Latched v (record { feoi = false }) (withStanding (v .standing) o)) (isActive (v .party))
+    (λ _. refl) (λ _. refl)
+effect-kept v (call-of.Of i act-of.Drop) = refl
+effect-kept v (call-of.Of i (act-of.SecondRequest on)) = refl
+effect-kept v (call-of.Of i (act-of.DataOut x)) = refl
+effect-kept v (call-of.Of i act-of.MarkEnd) = refl
+effect-kept v (call-of.Of i act-of.BusStatus) = refl
+effect-kept v (call-of.Of i act-of.DoNothing) = refl
+effect-kept v (call-of.Of i act-of.NoRegister) = refl
+effect-kept v call-of.Lines = refl
+effect-kept v call-of.Drivers = refl
+
+-- Control goes on from a party, and the interface is cleared by one, whose latches are as they were.
+abbrev Fair : After → Party → Party → Type 0
+Fair after.Settle p q = q ≡ q
+Fair (after.Pass j) p q = kept q ≡ kept p
+Fair after.Attend p q = q ≡ q
+Fair after.Clear p q = kept q ≡ kept p
+
+fair : (x : After) (p q : Party) → kept q ≡ kept p → Fair x p q
+fair after.Settle p q e = refl
+fair (after.Pass j) p q e = e
+fair after.Attend p q e = refl
+fair after.Clear p q e = e
+
+read-fair : (s : Slot) (p : Party) → Fair (readOut s p .after) p (readOut s p .party)
+read-fair Empty p = refl
+read-fair (Full x e) p = refl
+
+effect-fair : (v : View) (c : Call) → Fair (effectOf v c .after) (v .party) (effectOf v c .party)
+effect-fair v (call-of.Of i act-of.Step) = fair (step v .after) (v .party) (step v .party) (step-same v)
+effect-fair v (call-of.Of i (act-of.Write x e)) = refl
+effect-fair v (call-of.Of i act-of.Read) = read-fair (v .party .input) (v .party)
+effect-fair v (call-of.Of i (act-of.PollRegister x)) = refl
+effect-fair v (call-of.Of i (act-of.ListenOnly on)) = refl
+effect-fair v (call-of.Of i (act-of.TalkOnly on)) = refl
+effect-fair v (call-of.Of i act-of.TakeControl) = refl
+effect-fair v (call-of.Of i act-of.GoToStandby) = refl
+effect-fair v (call-of.Of i act-of.InterfaceClear) = refl
+effect-fair v (call-of.Of i act-of.Reset) = cond-elim
+    (λ (o : Outcome). Fair (o .after) (v .party) (o .party)) (isActive (v .party)) (λ _. refl) (λ _. refl)
+effect-fair v (call-of.Of i act-of.Drop) = refl
+effect-fair v (call-of.Of i (act-of.SecondRequest on)) = refl
+effect-fair v (call-of.Of i (act-of.DataOut x)) = refl
+effect-fair v (call-of.Of i act-of.MarkEnd) = refl
+effect-fair v (call-of.Of i act-of.BusStatus) = refl
+effect-fair v (call-of.Of i act-of.DoNothing) = refl
+effect-fair v (call-of.Of i act-of.NoRegister) = refl
+effect-fair v call-of.Lines = refl
+effect-fair v call-of.Drivers = refl
+
+-- What follows leaves both of every party.
+module _ (b : Bus) (i : ℕ) (e : Effect) where
+  settled-same : (t : Bool) (ps : List Party) (j : ℕ) → kept (at (each (b .count) (settled t) ps) j) ≡ kept (at ps j)
+  settled-same t ps = each-part kept (b .count) (settled t) ps (λ p. refl)
+
+  attended-same : (ps : List Party) (j : ℕ) → let t = some (b .count) isActive ps in kept (at
+      (each (b .count) (settled t) (each (b .count) (attended t) ps)) j) ≡ kept (at ps j)
+  attended-same ps j = let t = some (b .count) isActive ps in
+      settled-same t (each (b .count) (attended t) ps) j ∙ each-part kept (b .count) (attended t) ps (λ p. refl) j
+
+  followed-same : (x : After) → Fair x (here b i) (e .party) → (t : Bool) (j : ℕ)
+      → kept (here (followed x t b i e .bus) j) ≡ kept (at (set (b .parties) i (e .party)) j)
+  followed-same after.Settle f t j = settled-same t (set (b .parties) i (e .party)) j
+  followed-same (after.Pass k) f t j =
+      let left = set (b .parties) i (changeControl Idle (e .party)) in
+      let same = set-part kept (b .parties) i (changeControl Idle (e .party)) f in
+      attended-same (set left (k .0) (changeControl Active (here b (k .0)))) j
+      ∙ set-part kept left (k .0) (changeControl Active (here b (k .0))) (sym (same (k .0))) j ∙ same j
+      ∙ sym (set-part kept (b .parties) i (e .party) f j)
+  followed-same after.Attend f t j = attended-same (set (b .parties) i (e .party)) j
+  followed-same after.Clear f t j =
+      let all = each (b .count) cleared (b .parties) in
+      let same = each-part kept (b .count) cleared (b .parties) (λ p. refl) in
+      attended-same (set all i (e .party)) j ∙ set-part kept all i (e .party) (f ∙ sym (same i)) j ∙ same j
+      ∙ sym (set-part kept (b .parties) i (e .party) f j)
+
+-- An accepted call leaves every name, and of the latches those that are not its own party's.
+pub accepted-kept : (b : Bus) (c : Call) (j : ℕ) → let v = m.viewAt (placeOf c) (lines b) b in
+    kept (here (m.accepted (lines b) b c .bus) j) ≡ kept (at (set (b .parties) (placeOf c .0) (effectOf v c .party)) j)
+accepted-kept b c j = let v = m.viewAt (placeOf c) (lines b) b in let e = effectOf v c in
+    followed-same b (placeOf c .0) e (e .after) (effect-fair v c) (lines b .atn) j
