@@ -69,7 +69,7 @@ module _ (xs : List Name) (s : Place) (ok : badBuild xs s ≡ false) where
       (λ h. (beyond, placed-past 15 xs j (ltb-false j (length xs) h)))
 
   -- what holds of every party just built holds of every party
-  all-new : (R : Party → Type 0) → ((n : Name) → R (builtParty n)) → (j : ℕ) → R (here (built xs s) j)
+  pub all-new : (R : Party → Type 0) → ((n : Name) → R (builtParty n)) → (j : ℕ) → R (here (built xs s) j)
   all-new R r j = let n = new j in rw (n .1) (r (n .0))
 
   nobody : atnOf (built xs s) ≡ false

@@ -7,6 +7,8 @@
 --     effectOf  crates/accepted/specs, over crates/source_step/specs, crates/acceptor_step/specs and
 --               crates/host_calls/specs; their words in crates/effect/specs
 --     follow    Settling.antt   settling, attention, control that goes on, interface clear
+--   accessed    below           the call that an access to a register of the chip stands for: `standsFor` in
+--               crates/registers/specs
 --   build       Record.antt     the bus record, its lines, building; which addresses make a bus: crates/addresses/specs
 --   one party   crates/party/specs (what it drives, hears, offers and settles to), over crates/role, crates/service and
 --               crates/offer
@@ -20,8 +22,11 @@ use lib.Dec.{eqb}
 use Rattle.parties.specs.Places.{otherTalker}
 use Rattle.effect.specs.Calls.{isAccepted, placeOf}
 use Rattle.refusals.specs.Refusals.{isInside, judge}
+use Rattle.registers.specs.declared.Access.{Access}
+use Rattle.registers.specs.Registers.{standsFor}
 use Rattle.accepted.specs.Accepted.{effectOf}
 use Rattle.bus.specs.Types.{Place, Lines, Bus, Answer, Call, Refusal, View}
+use Rattle.bus.specs.Types.call-of
 use Rattle.bus.specs.Record.{here, lines, refuse}
 use Rattle.bus.specs.Settling.{follow}
 
@@ -55,6 +60,10 @@ callIn l b c = judged (refusal l b c) b (accepted l b c)
 
 abbrev pub call : Bus → Call → Answer
 call b c = callIn (lines b) b c
+
+-- An access to a register of the party at place p is the call of that party that it stands for (document 02, Q-6).
+abbrev pub accessed : Bus → Place → Access → Answer
+accessed b p a = call b (call-of.Of p (standsFor a))
 
 -- The bus after a list of calls.
 abbrev pub run : Bus → List Call → Bus

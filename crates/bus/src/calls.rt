@@ -1,9 +1,8 @@
 // The calls on a bus: each goes through the parties once, meets its refusal or has its effect, and hands the bus back
 // in its answer.
 ghost use mathlib.Core.Path.{_≡_};
-ghost use Rattle.bus.specs.Machine.{call};
+ghost use Rattle.bus.specs.Machine.{call, accessed};
 ghost use Rattle.bus.specs.Drivers.{drivers};
-ghost use Rattle.registers.specs.Registers.{standsFor};
 use crate::Answer;
 use crate::Bus;
 use crate::Drivers;
@@ -136,13 +135,13 @@ impl Bus {
 
     // What the chip's host reads of its party's register at an offset.
     pub fn read_register(self, p: Place, offset: u8) -> Answer
-        ensures { λ r. ⌜ r ≡ call self (Call.Of p (standsFor (Access.Read offset))) ⌝ }
+        ensures { λ r. ⌜ r ≡ accessed self p (Access.Read offset) ⌝ }
     {
         self.call(Call::Of(p, Access::Read(offset).stands_for()))
     }
 
     pub fn write_register(self, p: Place, offset: u8, value: u8) -> Answer
-        ensures { λ r. ⌜ r ≡ call self (Call.Of p (standsFor (Access.Write offset value))) ⌝ }
+        ensures { λ r. ⌜ r ≡ accessed self p (Access.Write offset value) ⌝ }
     {
         self.call(Call::Of(p, Access::Write(offset, value).stands_for()))
     }

@@ -22,8 +22,9 @@ use Rattle.image.specs.Image.{rowsOf, busOf}
 use Rattle.image.proofs.Kept.{read-back}
 use Rattle.meskvorn.specs.Packing.{packed}
 use Rattle.meskvorn.specs.Host.{rowsAfter, Replied, Built, Gave, maskList, countList, Counted}
-use Rattle.meskvorn.specs.Hosted.{Op, by-number, by-register, answerOf, turnsGiven, Asked, call, run, Reply, answer}
-use Rattle.meskvorn.specs.Hosted.{turns, drivers-of-lines, driven, Handed, none, called, ran, asked, Same, Hosted, HostedFromBuild}
+use Rattle.meskvorn.specs.Hosted.{Op, by-number, by-register, answerOf, turnsGiven, Asked, call, run, Reply}
+use Rattle.meskvorn.specs.Hosted.{answer, turns, drivers-of-lines, driven, Handed, none, called, ran, asked, Same}
+use Rattle.meskvorn.specs.Hosted.{Hosted, HostedFromBuild}
 use Rattle.meskvorn.proofs.Sizes.{call-size, answer-size, turns-size, drivers-size, build-size}
 use Rattle.meskvorn.proofs.Refused.{answer-leaves, turns-leave}
 

@@ -12,12 +12,7 @@ use Rattle.bus.specs.declared.Answer.{Answer}
 use Rattle.bus.specs.declared.Drivers.{Drivers}
 use Rattle.parties.specs.declared.Masks.{Masks}
 use Rattle.parties.specs.declared.Counts.{Counts}
-use Rattle.effect.specs.declared.Call.the-variants as call-of
-use Rattle.parties.specs.Places.{place}
-use Rattle.registers.specs.declared.Access.{Access}
-use Rattle.registers.specs.Registers.{standsFor}
 use Rattle.bus.specs.Record.{here, refuse}
-use Rattle.bus.specs.Machine.{call}
 use Rattle.image.specs.Image.{rowsOf}
 use Rattle.refusals.specs.Refusals.{isInside}
 use Rattle.orders.specs.Orders.{orderOf, obey}
@@ -42,10 +37,6 @@ RanTo script before after n = (r : Ran) × ((n ≡ countOf r) × RanAs script be
 unfoldable pub answerByNumber : Bus → ℕ → ℕ → ℕ → ℕ → Answer
 answerByNumber b op party value extra =
     cond (eqb op 0) (refuse ruling.BadValue b) (obey b (orderOf op party value extra))
-
--- An access to a register of a party (document 02, Q-6).
-abbrev pub accessed : Bus → ℕ → Access → Answer
-accessed b party a = call b (call-of.Of (place party) (standsFor a))
 
 -- The rows after what was answered with this refusal: those of the bus that it left. What is refused leaves the rows as
 -- they were, byte for byte, whatever they held.

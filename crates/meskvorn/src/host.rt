@@ -1,8 +1,10 @@
-// The bus call by call, for a program that keeps it as rows of bytes between the calls. Every content of the rows is some
-// bus; a refused call leaves it byte for byte.
+// The bus call by call, for a program that keeps it as rows of bytes between the calls. Every content of the rows is
+// some bus; a refused call leaves it byte for byte.
 ghost use Rattle.registers.specs.declared.Access.the-variants as access;
+ghost use Rattle.parties.specs.Places.{place};
+ghost use Rattle.bus.specs.Machine.{accessed};
 ghost use Rattle.image.specs.Image.{busOf};
-ghost use Rattle.meskvorn.specs.Host.{answerByNumber, accessed, Replied};
+ghost use Rattle.meskvorn.specs.Host.{answerByNumber, Replied};
 use crate::calls::answer_by_number;
 use crate::packing::packed;
 use bus::Answer;
@@ -48,7 +50,7 @@ pub extern "C" fn meskvorn_call(
 pub extern "C" fn meskvorn_read_register(bus: &mut [[u8; 24]; 16], party: u8, offset: u8) -> u64
     ensures { λ r.
         ⌜
-        Replied (accessed (busOf (now (bus .entry))) party (access.Read offset))
+        Replied (accessed (busOf (now (bus .entry))) (place party) (access.Read offset))
         (now (bus .entry)) (now (bus .exit)) r
         ⌝ }
 {
@@ -67,7 +69,7 @@ pub extern "C" fn meskvorn_write_register(
 ) -> u64
     ensures { λ r.
         ⌜
-        Replied (accessed (busOf (now (bus .entry))) party (access.Write offset value))
+        Replied (accessed (busOf (now (bus .entry))) (place party) (access.Write offset value))
         (now (bus .entry)) (now (bus .exit)) r
         ⌝ }
 {

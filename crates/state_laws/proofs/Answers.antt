@@ -1,9 +1,10 @@
 -- What every answer has: how much is dropped and broken off, and which refusals there are.
 -- Assumes nothing.
-use mathlib.Core.Path.{_≡_, refl, ap, _∙_}
+use mathlib.Core.Path.{_≡_, refl}
 use mathlib.Core.Bool.{Bool, true, false, not, cond, _||_}
 use mathlib.Core.List.{List, [], _∷_}
-use Prim.Native.Nat.{ℕ, zero, suc, _+_, _≤_}
+use mathlib.Core.Logic.{_⊎_, inl, inr}
+use Prim.Native.Nat.{ℕ, zero, suc, _≤_}
 use native.Mathlib.Omega.{arith}
 use lib.Dec.{ltb}
 use lib.ListN.{set}
@@ -15,18 +16,19 @@ use Rattle.party.specs.Sending.{isSource, isPolled, offer}
 use Rattle.party.specs.Settling.{cleared, clearDrops}
 use Rattle.parties.specs.Places.{at, total, isFound}
 use Rattle.parties.proofs.Places.{total-zero}
-use Rattle.effect.specs.Calls.{isAccepted, placeOf, isOn}
+use Rattle.effect.specs.Calls.{isAccepted, placeOf, isOn, refusalNumber}
 use Rattle.effect.specs.Stands.{stands, sends}
 use Rattle.effect.specs.Effects.{withStanding}
-use Rattle.refusals.specs.Refusals.{writeRefusal, listenRefusal, talkRefusal, inStandby, own, judge}
+use Rattle.refusals.specs.Refusals.{writeRefusal, inStandby, own, judge}
 use Rattle.source_step.specs.SourceStep.{ready, ended, sourceIn}
 use Rattle.acceptor_step.specs.AcceptorStep.{takes, acceptorIn}
 use Rattle.host_calls.specs.HostCalls.{readOut}
 use Rattle.accepted.specs.Accepted.{effectOf}
 use Rattle.bus.specs.declared.Bus.{Bus}
 use Rattle.bus.specs.declared.Answer.{Answer}
-use Rattle.bus.specs.Types.{Party, Source, Sids, Sgns, Sdys, Strs, Acceptor, Aids, Anrs, Acrs, Acds, Awns, Slot, Empty}
-use Rattle.bus.specs.Types.{Full, Kind, Standing, Nothing, Byte, Call, Act, Refusal, After, Outcome, Effect, View}
+use Rattle.bus.specs.Types.{Place, Party, Source, Sids, Sgns, Sdys, Strs, Acceptor, Aids, Anrs, Acrs, Acds, Awns, Slot}
+use Rattle.bus.specs.Types.{Empty, Full, Kind, Standing, Nothing, Byte, Call, Act, Refusal, After, Outcome, Effect}
+use Rattle.bus.specs.Types.{View}
 use Rattle.bus.specs.Types.ruling
 use Rattle.bus.specs.Types.after
 use Rattle.bus.specs.Types.call-of
@@ -34,7 +36,7 @@ use Rattle.bus.specs.Types.act-of
 use Rattle.bus.specs.Record.{here, lines}
 use Rattle.bus.specs.Settling.{deserted, followed}
 use Rattle.bus.specs.Machine as m
-use Rattle.bus.proofs.Invariant.{Inv, busy, active-busy}
+use Rattle.bus.proofs.Invariant.{Inv, active-busy}
 use Rattle.bus.proofs.Reached as reached
 use Rattle.runner.proofs.Led.{led-inv}
 use Rattle.state_laws.specs.States.{FewDropped, OneBroken, RefusedLeaves, NeverRecord}
@@ -167,56 +169,71 @@ one-broken b c =
 pub refused-leaves : RefusedLeaves
 refused-leaves = reached.refused-leaves
 
-abbrev Other : Refusal → Type 0
-Other r = r ≡ ruling.Record → ⊥
+-- A call meets one of the refusals up to 9, or NOREG if it asks for no register that is carried.
+abbrev Within : Refusal → Type 0
+Within r = refusalNumber r ≤ 9
+
+abbrev pub Met : Call → Refusal → Type 0
+Met c r = Within r ⊎ ((r ≡ ruling.NoReg) × ((p : Place) × (c ≡ call-of.Of p act-of.NoRegister)))
 
 -- one refusal or acceptance
-either : (x : Bool) (r s : Refusal) → Other r → Other s → Other (cond x r s)
+either : (x : Bool) (r s : Refusal) → Within r → Within s → Within (cond x r s)
 either true r s f g = f
 either false r s f g = g
 
-write-other : (v : View) → Other (writeRefusal v)
-write-other v = either (isFull (v .party .held)) _ _ (λ h. no (cc)) (λ h. no (cc))
+write-within : (v : View) → Within (writeRefusal v)
+write-within v = either (isFull (v .party .held)) _ _ (omega arith) (omega arith)
 
-own-other : (v : View) (a : Act) → Other (own v a)
-own-other v act-of.Step = λ h. no (cc)
-own-other v (act-of.Write x e) = either (ltb 1 e) _ _ (λ h. no (cc)) (write-other v)
-own-other v act-of.Read = either (isFull (v .party .input)) _ _ (λ h. no (cc)) (λ h. no (cc))
-own-other v (act-of.PollRegister x) = λ h. no (cc)
-own-other v (act-of.ListenOnly on) = either (ltb 1 on) _ _ (λ h. no (cc))
-    (either (isOn on) _ _ (either (v .party .role .talk) _ _ (λ h. no (cc)) (λ h. no (cc))) (λ h. no (cc)))
-own-other v (act-of.TalkOnly on) = either (ltb 1 on) _ _ (λ h. no (cc))
-    (either (isOn on) _ _ (either (v .party .role .listen) _ _ (λ h. no (cc))
-    (either (v .lines .atn) _ _ (λ h. no (cc)) (either (isFound (v .talker)) _ _ (λ h. no (cc)) (λ h. no (cc)))))
-    (λ h. no (cc)))
-own-other v act-of.TakeControl = either (inStandby (v .party .control)) _ _ (λ h. no (cc)) (λ h. no (cc))
-own-other v act-of.GoToStandby = either (isActive (v .party)) _ _
-    (either (sends v) _ _ (λ h. no (cc)) (λ h. no (cc))) (λ h. no (cc))
-own-other v act-of.InterfaceClear = either (v .chief) _ _ (λ h. no (cc)) (λ h. no (cc))
-own-other v act-of.Reset = either (sends v) _ _ (λ h. no (cc)) (λ h. no (cc))
-own-other v act-of.Drop = λ h. no (cc)
-own-other v (act-of.SecondRequest on) = either (ltb 1 on) _ _ (λ h. no (cc)) (λ h. no (cc))
-own-other v (act-of.DataOut x) = write-other v
-own-other v act-of.MarkEnd = λ h. no (cc)
-own-other v act-of.BusStatus = λ h. no (cc)
-own-other v act-of.DoNothing = λ h. no (cc)
-own-other v act-of.NoRegister = λ h. no (cc)
+own-met : (v : View) (i : Place) (a : Act) → Met (call-of.Of i a) (own v a)
+own-met v i act-of.Step = inl (omega arith)
+own-met v i (act-of.Write x e) = inl (either (ltb 1 e) _ _ (omega arith) (write-within v))
+own-met v i act-of.Read = inl (either (isFull (v .party .input)) _ _ (omega arith) (omega arith))
+own-met v i (act-of.PollRegister x) = inl (omega arith)
+own-met v i (act-of.ListenOnly on) = inl (either (ltb 1 on) _ _ (omega arith)
+    (either (isOn on) _ _ (either (v .party .role .talk) _ _ (omega arith) (omega arith)) (omega arith)))
+own-met v i (act-of.TalkOnly on) = inl (either (ltb 1 on) _ _ (omega arith)
+    (either (isOn on) _ _ (either (v .party .role .listen) _ _ (omega arith)
+    (either (v .lines .atn) _ _ (omega arith) (either (isFound (v .talker)) _ _ (omega arith) (omega arith))))
+    (omega arith)))
+own-met v i act-of.TakeControl = inl (either (inStandby (v .party .control)) _ _ (omega arith) (omega arith))
+own-met v i act-of.GoToStandby = inl (either (isActive (v .party)) _ _
+    (either (sends v) _ _ (omega arith) (omega arith)) (omega arith))
+own-met v i act-of.InterfaceClear = inl (either (v .chief) _ _ (omega arith) (omega arith))
+own-met v i act-of.Reset = inl (either (sends v) _ _ (omega arith) (omega arith))
+own-met v i act-of.Drop = inl (omega arith)
+own-met v i (act-of.SecondRequest on) = inl (either (ltb 1 on) _ _ (omega arith) (omega arith))
+own-met v i (act-of.DataOut x) = inl (write-within v)
+own-met v i act-of.MarkEnd = inl (omega arith)
+own-met v i act-of.BusStatus = inl (omega arith)
+own-met v i act-of.DoNothing = inl (omega arith)
+own-met v i act-of.NoRegister = inr (refl, (i, refl))
 
-judge-other : (v : View) (c : Call) → Other (judge v c)
-judge-other v (call-of.Of i a) = either (v .inside) _ _ (own-other v a) (λ h. no (cc))
-judge-other v call-of.Lines = λ h. no (cc)
-judge-other v call-of.Drivers = λ h. no (cc)
+judge-met : (v : View) (c : Call) → Met c (judge v c)
+judge-met v (call-of.Of i a) = cond-elim (Met (call-of.Of i a)) (v .inside) (λ _. own-met v i a)
+    (λ _. inl (omega arith))
+judge-met v call-of.Lines = inl (omega arith)
+judge-met v call-of.Drivers = inl (omega arith)
 
-followed-accepted : (x : After) (t : Bool) (b : Bus) (i : ℕ) (e : Effect) → Other (followed x t b i e .refusal)
-followed-accepted after.Settle t b i e = λ h. no (cc)
-followed-accepted (after.Pass j) t b i e = λ h. no (cc)
-followed-accepted after.Attend t b i e = λ h. no (cc)
-followed-accepted after.Clear t b i e = λ h. no (cc)
+followed-within : (x : After) (t : Bool) (b : Bus) (i : ℕ) (e : Effect) → Within (followed x t b i e .refusal)
+followed-within after.Settle t b i e = omega arith
+followed-within (after.Pass j) t b i e = omega arith
+followed-within after.Attend t b i e = omega arith
+followed-within after.Clear t b i e = omega arith
 
-pub never-record : NeverRecord
-never-record b c =
+pub call-met : (b : Bus) (c : Call) → Met c (m.call b c .refusal)
+call-met b c =
     let l = lines b in
     let v = m.viewAt (placeOf c) l b in
-    cond-elim (λ (a : Answer). Other (a .refusal)) (isAccepted (m.refusal l b c))
-    (λ _. followed-accepted (effectOf v c .after) (l .atn) b (placeOf c .0) (effectOf v c))
-    (λ _. judge-other v c)
+    cond-elim (λ (a : Answer). Met c (a .refusal)) (isAccepted (m.refusal l b c))
+    (λ _. inl (followed-within (effectOf v c .after) (l .atn) b (placeOf c .0) (effectOf v c)))
+    (λ _. judge-met v c)
+
+pub never-record : NeverRecord
+never-record b c e = go (call-met b c)
+  where
+    over : 10 ≤ 9 → ⊥
+    over h = omega arith
+
+    go : Met c (m.call b c .refusal) → ⊥
+    go (inl h) = over (rw e at h)
+    go (inr h) = let z = h .0 in no (cc)

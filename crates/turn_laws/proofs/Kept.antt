@@ -2,9 +2,10 @@
 -- reset, feoi and a byte through data out change the latches of their own party.
 -- Assumes nothing.
 use mathlib.Core.Path.{_≡_, refl, sym, ap, _∙_}
-use mathlib.Core.Bool.{Bool, true, false, not, _||_}
+use mathlib.Core.Bool.{Bool, true, false, not, cond, _||_}
 use mathlib.Core.List.{List}
 use Prim.Native.Nat.{ℕ}
+use lib.Dec.{eqb}
 use lib.ListN.{set}
 use Rattle.message.specs.Meaning.{meaningOf}
 use Rattle.role.proofs.Logic.{cond-elim}
@@ -17,7 +18,7 @@ use Rattle.party.specs.Sending.{isSource, isPolled, offer}
 use Rattle.party.specs.Settling.{attended, settled, changeControl, cleared}
 use Rattle.parties.specs.Places.{at, some, each}
 use Rattle.parties.proofs.Places.{set-part, each-part}
-use Rattle.effect.specs.Calls.{placeOf}
+use Rattle.effect.specs.Calls.{placeOf, actNumber}
 use Rattle.effect.specs.Stands.{ofCommand}
 use Rattle.effect.specs.Effects.{withStanding}
 use Rattle.source_step.specs.SourceStep.{ready, ended, sourceIn}
@@ -87,25 +88,10 @@ module _ (v : View) where
   read-latched Empty = refl
   read-latched (Full x e) = refl
 
--- the latches that an accepted call leaves its party with
+-- the latches that an accepted call leaves its party with: feoi, then reset and a byte through data out
 abbrev pub latched : Call → Latches → Latches
-latched (call-of.Of i act-of.Step) l = l
-latched (call-of.Of i (act-of.Write x e)) l = l
-latched (call-of.Of i act-of.Read) l = l
-latched (call-of.Of i (act-of.PollRegister x)) l = l
-latched (call-of.Of i (act-of.ListenOnly on)) l = l
-latched (call-of.Of i (act-of.TalkOnly on)) l = l
-latched (call-of.Of i act-of.TakeControl) l = l
-latched (call-of.Of i act-of.GoToStandby) l = l
-latched (call-of.Of i act-of.InterfaceClear) l = l
-latched (call-of.Of i act-of.Reset) l = record { feoi = false }
-latched (call-of.Of i act-of.Drop) l = l
-latched (call-of.Of i (act-of.SecondRequest on)) l = l
-latched (call-of.Of i (act-of.DataOut x)) l = record { feoi = false }
-latched (call-of.Of i act-of.MarkEnd) l = record { feoi = true }
-latched (call-of.Of i act-of.BusStatus) l = l
-latched (call-of.Of i act-of.DoNothing) l = l
-latched (call-of.Of i act-of.NoRegister) l = l
+latched (call-of.Of i a) l = let n = actNumber a in
+    record { feoi = cond (eqb n 15) true (cond (eqb n 10 || eqb n 14) false (l .feoi)) }
 latched call-of.Lines l = l
 latched call-of.Drivers l = l
 

@@ -1,0 +1,4 @@
+-- What holds of accesses to the chip's registers (document 02, Q-6).
+pub mod Accesses
+pub mod Marks
+pub mod Examples

@@ -1,0 +1,1 @@
+// The chip's registers: laws about accesses to them, and nothing to call.
