@@ -1,6 +1,7 @@
 //! Model and subject side by side: a list is compared call by call, and by the text of the script that
 //! it stands for.
 
+pub mod alike;
 pub mod any_memory;
 pub mod builds;
 mod call_by_call;

@@ -1,8 +1,8 @@
 //! Compares the model with a subject.
 //!
-//! No argument: the gate run. `long N [SEED]`: N million records. `vectors DIR`: all scripts of a
-//! folder against their texts. `text`: what the model prints for the script on standard input.
-//! `bench`: the subject's speed beside the model's.
+//! No argument: the gate run. `long N [SEED]`: N million records, and every value to every register on
+//! every kind of state. `vectors DIR`: all scripts of a folder against their texts. `text`: what the
+//! model prints for the script on standard input. `bench`: the subject's speed beside the model's.
 
 use std::io::{self, Read, Write};
 use std::panic;
@@ -14,10 +14,11 @@ use meskvorn_tests::bench;
 use meskvorn_tests::compare::product::Product;
 use meskvorn_tests::compare::subject::Subject;
 use meskvorn_tests::compare::{any_memory, vectors, whole_run};
+use meskvorn_tests::lists::every_access::Values;
 use meskvorn_tests::model::script;
 
 const SEED: u64 = 488;
-const GATE_RECORDS: u64 = 20_000_000;
+const GATE_RECORDS: u64 = 24_000_000;
 
 /// The thing under test.
 fn subject() -> Box<dyn Subject> {
@@ -41,14 +42,16 @@ fn usage() -> bool {
 }
 
 fn gate() -> bool {
-    any_memory::run_library(SEED) && whole_run::run(subject().as_mut(), SEED, GATE_RECORDS)
+    let values = Values::OneInEight;
+    any_memory::run_library(SEED) && whole_run::run(subject().as_mut(), SEED, GATE_RECORDS, values)
 }
 
 fn long(millions: &str, seed: Option<&str>) -> bool {
     let seed = seed.map_or(Ok(SEED), str::parse);
     match (millions.parse::<u64>(), seed) {
         (Ok(millions), Ok(seed)) => {
-            whole_run::run(subject().as_mut(), seed, millions.saturating_mul(1_000_000))
+            let records = millions.saturating_mul(1_000_000);
+            whole_run::run(subject().as_mut(), seed, records, Values::All)
         }
         _ => usage(),
     }

@@ -2,23 +2,27 @@
 
 mod builds;
 mod drivers;
+mod end_marks;
 mod machine;
 mod noacc;
+mod registers;
 mod runs;
 mod second_requests;
 mod secondaries;
 
 pub use builds::{BuildFault, LENGTH_FAULTS, NAME_FAULTS};
 pub use drivers::{DriversFault, Shows, DRIVERS_FAULTS};
+pub use end_marks::{EndMarkFault, END_MARK_FAULTS};
 pub use machine::MACHINE_FAULTS;
+pub use registers::{AccessFault, ACCESS_FAULTS};
 pub use runs::{RunFault, WrongRun, RUN_FAULTS};
 pub use second_requests::REQUEST_FAULTS;
 pub use secondaries::SECONDARY_FAULTS;
 
-use crate::compare::subject::{like_lines_by, try_run_by, Subject};
-use crate::lists::pieces;
+use crate::compare::subject::{like_lines_by, try_accesses_by, try_run_by, Subject};
+use crate::lists::{pieces, stands_for};
 use crate::model::script::{self, Call, Record, STEP};
-use crate::model::{Answer, Bus, Drivers, Lists, Name, Party, Turns};
+use crate::model::{Access, Answer, Bus, Drivers, Lists, Name, Party, Turns};
 
 /// Takes the bus to alter, the bus before the call, the call, and the answer to alter.
 pub type Fault = fn(&mut Bus, &Bus, Record, &mut Answer);
@@ -38,13 +42,14 @@ fn was(before: &Bus, call: Record) -> &Party {
     &before.parties[usize::from(call[3])]
 }
 
-/// The model, whose bus and answer a fault alters after each call, or whose build or call for
-/// drivers is wrong.
+/// The model, whose bus and answer a fault alters after each call, or whose build, call for drivers
+/// or access is wrong.
 pub struct Wrong {
     pub bus: Bus,
     fault: Fault,
     build: BuildFault,
     drivers: DriversFault,
+    access: AccessFault,
 }
 
 impl Wrong {
@@ -54,6 +59,7 @@ impl Wrong {
             fault,
             build: BuildFault::OfLengths(Bus::build_extended),
             drivers: Bus::drivers,
+            access: Bus::access,
         }
     }
 
@@ -70,6 +76,22 @@ impl Wrong {
         Wrong {
             drivers,
             ..Wrong::new(|_, _, _, _| {})
+        }
+    }
+
+    /// Every call is right but accesses.
+    pub fn accessed(access: AccessFault) -> Wrong {
+        Wrong {
+            access,
+            ..Wrong::new(|_, _, _, _| {})
+        }
+    }
+
+    /// Every call is right but for what it does to feoi's marks.
+    pub fn marking(fault: EndMarkFault) -> Wrong {
+        match fault {
+            EndMarkFault::OfAccess(access) => Wrong::accessed(access),
+            EndMarkFault::OfCall(fault) => Wrong::new(fault),
         }
     }
 
@@ -95,6 +117,18 @@ fn faulty(
     let mut answer = run(bus);
     fault(bus, &before, record, &mut answer);
     answer
+}
+
+/// An access is as faulty as the host call that it stands for.
+fn faulty_access(bus: &mut Bus, fault: Fault, access: Access, run: AccessFault) -> Answer {
+    let record = stands_for::as_record(access, bus);
+    faulty(bus, fault, record, |bus| run(bus, access))
+}
+
+fn faulty_call(bus: &mut Bus, fault: Fault, call: Call) -> Answer {
+    let [operation, party, value, extra] = call;
+    let record = script::record(operation, party, value, extra);
+    faulty(bus, fault, record, |bus| script::call(bus, call))
 }
 
 fn faulty_step(bus: &mut Bus, fault: Fault, party: u8) -> Answer {
@@ -137,11 +171,7 @@ impl Subject for Wrong {
     }
 
     fn call(&mut self, call: Call) -> Answer {
-        let [operation, party, value, extra] = call;
-        let record = script::record(operation, party, value, extra);
-        faulty(&mut self.bus, self.fault, record, |bus| {
-            script::call(bus, call)
-        })
+        faulty_call(&mut self.bus, self.fault, call)
     }
 
     fn give_turns(&mut self, turns: u16) -> Turns {
@@ -160,6 +190,16 @@ impl Subject for Wrong {
 
     fn drivers_like_lines(&self) -> bool {
         like_lines_by(&self.bus, self.drivers, Bus::lines)
+    }
+
+    fn access(&mut self, access: Access) -> Answer {
+        faulty_access(&mut self.bus, self.fault, access, self.access)
+    }
+
+    fn try_accesses(&self, accesses: &[Access], calls: &[Call]) -> (Vec<Answer>, bool) {
+        let access = |bus: &mut Bus, own| faulty_access(bus, self.fault, own, self.access);
+        let call = |bus: &mut Bus, own| faulty_call(bus, self.fault, own);
+        try_accesses_by(&self.bus, accesses, calls, access, call)
     }
 
     fn record(&mut self, record: Record) -> Answer {

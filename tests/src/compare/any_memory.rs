@@ -1,5 +1,5 @@
-//! Calls and runs on memory of any content, be it such as no build gives: what is refused leaves every
-//! byte as it was.
+//! Calls, runs and accesses on memory of any content, be it such as no build gives: what is refused
+//! leaves every byte as it was.
 
 use meskvorn::Bus;
 
@@ -7,13 +7,15 @@ use super::memory::{bus_in, Rows, ROW};
 use super::product::{self, Product};
 use super::{subject, words};
 use crate::lists::guided::Guided;
+use crate::lists::likely_accesses::any_access;
 use crate::lists::random_numbers::Random;
 use crate::model::script::{Call, LAST_OPERATION};
-use crate::model::Refusal;
+use crate::model::{Access, Refusal};
 
 const SAMPLES: usize = 3000;
 const CONTENTS: usize = 200_000;
 const CALLS_EACH: usize = 8;
+const ACCESSES_EACH: usize = 8;
 
 /// Fewer of a refusal would say little.
 const LEAST: u64 = 100;
@@ -31,11 +33,28 @@ const OF_CALLS: [Refusal; 9] = [
     Refusal::Empty,
 ];
 
+/// The same of an access.
+const OF_ACCESSES: [Refusal; 9] = [
+    Refusal::Accepted,
+    Refusal::NoParty,
+    Refusal::Role,
+    Refusal::Attention,
+    Refusal::Talker,
+    Refusal::Standing,
+    Refusal::Full,
+    Refusal::Empty,
+    Refusal::NoReg,
+];
+
+/// And of a run.
+const OF_RUNS: [Refusal; 2] = [Refusal::Accepted, Refusal::NoParty];
+
 /// A bus in memory, whatever that holds.
 pub trait InMemory: Clone + PartialEq {
     fn of(rows: Rows) -> Self;
     fn call(&mut self, call: Call) -> Refusal;
     fn give_turns(&mut self, turns: u16) -> Refusal;
+    fn access(&mut self, access: Access) -> Refusal;
 }
 
 impl InMemory for Bus {
@@ -50,33 +69,43 @@ impl InMemory for Bus {
     fn give_turns(&mut self, turns: u16) -> Refusal {
         Refusal::ALL[Bus::give_turns(self, turns).refusal as usize]
     }
+
+    fn access(&mut self, access: Access) -> Refusal {
+        Refusal::ALL[product::access(self, access).refusal as usize]
+    }
 }
 
-/// How often each refusal came, on calls and on runs.
+/// How often each refusal came.
+type Counts = [u64; 12];
+
 #[derive(Default, Debug)]
 pub struct Met {
-    pub calls: [u64; 11],
-    pub runs: [u64; 11],
+    pub calls: Counts,
+    pub runs: Counts,
+    pub accesses: Counts,
 }
 
 impl Met {
     /// What did not come often enough.
     pub fn missing(&self) -> Vec<String> {
-        let few = |counts: &[u64; 11], refusal: Refusal| counts[refusal as usize] < LEAST;
-        let calls = OF_CALLS.into_iter().filter(|own| few(&self.calls, *own));
-        let calls = calls.map(|own| format!("calls {} on any memory", own.word()));
-        let runs = [Refusal::Accepted, Refusal::NoParty].into_iter();
-        let runs = runs.filter(|own| few(&self.runs, *own));
-        calls
-            .chain(runs.map(|own| format!("runs {} on any memory", own.word())))
-            .collect()
+        let met: [(&str, &Counts, &[Refusal]); 3] = [
+            ("calls", &self.calls, &OF_CALLS),
+            ("runs", &self.runs, &OF_RUNS),
+            ("accesses", &self.accesses, &OF_ACCESSES),
+        ];
+        let few = met.iter().flat_map(|(what, counts, refusals)| {
+            let few = refusals.iter().filter(|own| counts[**own as usize] < LEAST);
+            few.map(move |own| format!("{what} {} on any memory", own.word()))
+        });
+        few.collect()
     }
 
     pub fn print(&self) {
-        println!("on memory of any content, calls and runs");
+        println!("on memory of any content, calls, runs and accesses");
         for (refusal, calls) in self.calls.iter().enumerate() {
             let (word, runs) = (Refusal::WORDS[refusal], self.runs[refusal]);
-            println!("{refusal:>3} {word:<10} {calls:>12} {runs:>12}");
+            let accesses = self.accesses[refusal];
+            println!("{refusal:>3} {word:<10} {calls:>12} {runs:>12} {accesses:>12}");
         }
     }
 }
@@ -120,7 +149,7 @@ fn any_call(random: &mut Random) -> Call {
 /// An error if the call is refused, and has changed the memory.
 fn try_on<B: InMemory>(
     before: &B,
-    counts: &mut [u64; 11],
+    counts: &mut Counts,
     call: impl FnOnce(&mut B) -> Refusal,
 ) -> Result<(), Refusal> {
     let mut bus = before.clone();
@@ -150,6 +179,11 @@ pub fn run<B: InMemory>(samples: &[Rows], seed: u64) -> Result<Met, String> {
             let call = any_call(&mut random);
             let tried = try_on(&bus, &mut met.calls, |bus| bus.call(call));
             tried.map_err(|refusal| story(words::call(call), refusal))?;
+        }
+        for _ in 0..ACCESSES_EACH {
+            let access = any_access(&mut random);
+            let tried = try_on(&bus, &mut met.accesses, |bus| bus.access(access));
+            tried.map_err(|refusal| story(words::access(access), refusal))?;
         }
         let turns = random.below(40) as u16;
         let tried = try_on(&bus, &mut met.runs, |bus| bus.give_turns(turns));

@@ -1,10 +1,11 @@
-//! Builds from lists in any order, without secondaries and with some, calls by number, and runs and
-//! drivers on such buses: no record can ask for these.
+//! Builds from lists in any order, without secondaries and with some, calls by number, and runs, drivers
+//! and accesses on such buses: no record can ask for these.
 
 use super::subject::{self, Subject};
 use super::words;
 use crate::ledger::tally::Lengths;
 use crate::lists::command_codes::{self, LISTEN_ADDRESS};
+use crate::lists::likely_accesses::any_access;
 use crate::lists::likely_arguments::likely_turns;
 use crate::lists::pieces;
 use crate::lists::random_numbers::Random;
@@ -12,7 +13,7 @@ use crate::lists::random_racks;
 use crate::model::script::{
     self, Call, Record, BUILD, CLEAR, LAST_OPERATION, LINES, STEP, TALK, WRITE,
 };
-use crate::model::{Answer, Bus, Lists, Name, MOST_PARTIES};
+use crate::model::{Access, Answer, Bus, Lists, Name, MOST_PARTIES};
 
 const LISTS: usize = 20_000;
 const CALLS_AFTER: usize = 30;
@@ -116,6 +117,13 @@ impl Pair<'_> {
         self.differ(format!("{model:?}"), format!("{subject:?}"))
     }
 
+    fn access(&mut self, access: Access) -> Done {
+        self.calls.push(pieces::access(access));
+        let model = self.bus.access(access);
+        let subject = self.subject.access(access);
+        self.agree(model, subject)
+    }
+
     fn drivers(&mut self) -> Done {
         self.calls.push(pieces::DRIVERS);
         let model = self.bus.drivers();
@@ -163,6 +171,9 @@ impl Pair<'_> {
                 random.field(2),
                 random.field(2),
             ])?;
+            if random.per_mille(200) {
+                self.access(any_access(random))?;
+            }
         }
         Ok(())
     }

@@ -1,13 +1,15 @@
 //! One list on kept buses, call by call: model, ledger and subject side by side.
 
+use super::alike::{alike, Alike};
 use super::subject::{self, Subject};
 use super::Difference;
 use crate::ledger::bound::Start;
 use crate::ledger::tally::Tally;
-use crate::ledger::{Ledger, Requests};
+use crate::ledger::{EndMarks, Ledger, Requests};
 use crate::lists::pieces::{self, Piece};
+use crate::lists::stands_for;
 use crate::model::script::{self, Record, BUILD, STEP};
-use crate::model::{Answer, Bus, Lists, Refusal};
+use crate::model::{Access, Answer, Bus, Lists, Refusal};
 
 type Done = Result<(), Difference>;
 
@@ -15,6 +17,7 @@ struct Walk<'a> {
     bus: Bus,
     ledger: Ledger,
     requests: Requests,
+    end_marks: EndMarks,
     subject: &'a mut dyn Subject,
     tally: &'a mut Tally,
     /// The piece of the list that is compared, from 1.
@@ -22,21 +25,31 @@ struct Walk<'a> {
 }
 
 impl Walk<'_> {
-    fn enter(&mut self, before: &Bus, call: Record, answer: &Answer) -> Done {
+    /// Enters a record or an access, which most books read as the host call that it stands for.
+    fn enter(&mut self, before: &Bus, piece: Record, answer: &Answer) -> Done {
         let number = self.number;
+        let call = match Piece::of(&piece) {
+            Piece::Access(access) => stands_for::as_record(access, before),
+            _ => piece,
+        };
+        let marks = &mut self.tally.marks;
+        marks.enter(before, call, answer, &self.bus);
         let entered = self.ledger.enter(before, call, answer, &self.bus);
         entered.map_err(|rule| Difference::Ledger { number, rule })?;
         let asked = &mut self.tally.asked;
         asked.enter(before, call, answer);
         let requests = &mut self.requests;
         let entered = requests.enter(before, call, answer, &self.bus, asked);
-        entered.map_err(|rule| Difference::Request { number, rule })
+        entered.map_err(|rule| Difference::Request { number, rule })?;
+        let cases = &mut self.tally.end_marks;
+        let entered = self.end_marks.enter(piece, answer, cases);
+        entered.map_err(|rule| Difference::EndMark { number, rule })
     }
 
-    /// One call, whose answer by the subject is known; the books read it as a record.
+    /// One call, whose answer by the subject is known; the books read it as a record or an access.
     fn agree(
         &mut self,
-        as_record: Record,
+        piece: Record,
         subject: Answer,
         call: impl FnOnce(&mut Bus) -> Answer,
     ) -> Done {
@@ -51,9 +64,7 @@ impl Walk<'_> {
             });
         }
         self.tally.count(&model);
-        let marks = &mut self.tally.marks;
-        marks.enter(&before, as_record, &model, &self.bus);
-        self.enter(&before, as_record, &model)
+        self.enter(&before, piece, &model)
     }
 
     fn record(&mut self, record: Record) -> Done {
@@ -138,6 +149,20 @@ impl Walk<'_> {
         checked.map_err(|rule| Difference::Ledger { number, rule })
     }
 
+    /// An access, beside the host call that it stands for.
+    fn access(&mut self, access: Access) -> Done {
+        let number = self.number;
+        let Alike { accesses, calls } = alike(access, &self.bus);
+        let (_, same) = self.subject.try_accesses(&accesses, &calls);
+        let subject = self.subject.access(access);
+        self.tally.accesses.enter(access, subject.refusal);
+        self.agree(pieces::access(access), subject, |bus| bus.access(access))?;
+        if same {
+            return Ok(());
+        }
+        Err(Difference::LikeCall { number })
+    }
+
     /// Tries the bound on copies, if it holds from here.
     fn try_bound(&mut self) -> Done {
         let Some(start) = Start::of(&self.bus) else {
@@ -166,6 +191,7 @@ impl Walk<'_> {
         match piece {
             Piece::Run(turns) => self.run(*turns)?,
             Piece::Drivers => self.drivers()?,
+            Piece::Access(access) => self.access(*access)?,
             Piece::Address(_) | Piece::Secondary(_) => return Ok(true),
             Piece::Build(lists, system) => self.build(lists, *system)?,
             Piece::Record(record) => {
@@ -191,6 +217,7 @@ pub fn compare_calls(subject: &mut dyn Subject, list: &[u8], tally: &mut Tally) 
         bus: Bus::new(),
         ledger: Ledger::new(),
         requests: Requests::new(),
+        end_marks: EndMarks::new(),
         subject,
         tally,
         number: 0,

@@ -25,6 +25,10 @@ pub enum Difference {
     LikeLines {
         number: usize,
     },
+    /// An access leaves another bus than the host call that it stands for.
+    LikeCall {
+        number: usize,
+    },
     /// What the party is called by, if there is one.
     Name {
         number: usize,
@@ -55,6 +59,10 @@ pub enum Difference {
         number: usize,
         rule: &'static str,
     },
+    EndMark {
+        number: usize,
+        rule: &'static str,
+    },
     Stopped,
 }
 
@@ -80,6 +88,7 @@ impl Difference {
                 format!("model {model}; subject {subject}")
             }
             Difference::LikeLines { .. } => "drivers leave another bus than lines".to_string(),
+            Difference::LikeCall { .. } => "an access leaves another bus than its call".to_string(),
             Difference::Name {
                 party,
                 model,
@@ -101,6 +110,9 @@ impl Difference {
             }
             Difference::Ledger { rule, .. } => format!("the model breaks demand 3: {rule}"),
             Difference::Request { rule, .. } => format!("the model breaks Q-5's condition: {rule}"),
+            Difference::EndMark { rule, .. } => {
+                format!("the model breaks the rule of feoi: {rule}")
+            }
             Difference::Stopped => "a panic".to_string(),
         }
     }
@@ -112,11 +124,13 @@ impl Difference {
             | Difference::Turns { number, .. }
             | Difference::Drivers { number, .. }
             | Difference::LikeLines { number }
+            | Difference::LikeCall { number }
             | Difference::Name { number, .. }
             | Difference::Bus { number }
             | Difference::Bound { number, .. }
             | Difference::Ledger { number, .. }
-            | Difference::Request { number, .. } => Some(*number),
+            | Difference::Request { number, .. }
+            | Difference::EndMark { number, .. } => Some(*number),
             Difference::Text { .. } | Difference::Stopped => None,
         }
     }

@@ -4,12 +4,12 @@
 use meskvorn::Bus;
 
 use super::memory::{self, Rows};
-use super::subject::{like_lines_by, try_run_by, Subject};
+use super::subject::{like_lines_by, try_accesses_by, try_run_by, Subject};
 use crate::model::script::{
     Call, CLEAR, DROP, LINES, LISTEN, POLL, READ, RECORD, REQUEST, RESET, STANDBY, STEP, TAKE,
     TALK, WRITE,
 };
-use crate::model::{Answer, Drivers, Event, Line, Lists, Name, Refusal, Turns};
+use crate::model::{Access, Answer, Drivers, Event, Line, Lists, Name, Refusal, Turns};
 
 /// The room that there has to be for a line of text.
 const LINE: usize = 34;
@@ -75,6 +75,17 @@ pub fn call(bus: &mut Bus, [operation, party, value, extra]: Call) -> meskvorn::
         (LINES, 0, 0) if party == 0 => bus.lines(),
         (REQUEST, 0 | 1, 0) => bus.second_request(party, value == 1),
         _ => bus.call(operation, party, value, extra),
+    }
+}
+
+pub fn access(bus: &mut Bus, access: Access) -> meskvorn::Answer {
+    match access {
+        Access::Read { party, offset } => bus.read_register(party, offset),
+        Access::Write {
+            party,
+            offset,
+            value,
+        } => bus.write_register(party, offset, value),
     }
 }
 
@@ -144,5 +155,15 @@ impl Subject for Product {
     fn drivers_like_lines(&self) -> bool {
         let lines = |bus: &mut Bus| in_the_models_terms(bus.lines());
         like_lines_by(&self.bus, drivers, lines)
+    }
+
+    fn access(&mut self, asked: Access) -> Answer {
+        in_the_models_terms(access(&mut self.bus, asked))
+    }
+
+    fn try_accesses(&self, accesses: &[Access], calls: &[Call]) -> (Vec<Answer>, bool) {
+        let access = |bus: &mut Bus, asked| in_the_models_terms(access(bus, asked));
+        let call = |bus: &mut Bus, asked| in_the_models_terms(call(bus, asked));
+        try_accesses_by(&self.bus, accesses, calls, access, call)
     }
 }

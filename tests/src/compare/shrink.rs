@@ -4,7 +4,9 @@ use super::subject::Subject;
 use super::{compare, Difference, Finding};
 use crate::ledger::tally::Tally;
 use crate::lists::pieces::Piece;
+use crate::model::registers::DATA_OUT;
 use crate::model::script::{BUILD, LINES, RECORD, WRITE};
+use crate::model::Access;
 
 /// The places of the addresses and of the secondaries that stand right before the build at `at`.
 fn entries(pieces: &[Vec<u8>], at: usize) -> [Vec<usize>; 2] {
@@ -40,17 +42,21 @@ fn builds(pieces: &[Vec<u8>]) -> Vec<usize> {
 /// Addresses above `moved` move down by one in commands.
 fn renumbered(piece: &[u8], gone: u8, moved: u8) -> Option<Vec<u8>> {
     let mut piece = piece.to_vec();
-    let of_a_party = matches!(Piece::of(&piece), Piece::Record(record) if record[2] != LINES);
-    if !of_a_party {
-        return Some(piece);
-    }
+    // Where a byte for the party to send stands, if there is one.
+    let byte = match Piece::of(&piece) {
+        Piece::Record([_, _, LINES, ..]) => return Some(piece),
+        Piece::Record([_, _, WRITE, ..]) => Some(4),
+        Piece::Access(Access::Write { offset, .. }) if offset == DATA_OUT => Some(5),
+        Piece::Record(_) | Piece::Access(_) => None,
+        _ => return Some(piece),
+    };
     if piece[3] == gone {
         return None;
     }
     piece[3] -= u8::from(piece[3] > gone);
-    let is_address = matches!(piece[4] & 0x7F, 0x20..=0x3E | 0x40..=0x5E);
-    if piece[2] == WRITE && is_address && piece[4] & 0x1F > moved {
-        piece[4] -= 1;
+    if let Some(own) = byte.map(|at| &mut piece[at]) {
+        let is_address = matches!(*own & 0x7F, 0x20..=0x3E | 0x40..=0x5E);
+        *own -= u8::from(is_address && *own & 0x1F > moved);
     }
     Some(piece)
 }

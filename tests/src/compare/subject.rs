@@ -2,7 +2,7 @@
 
 use crate::lists::pieces::{self, Piece};
 use crate::model::script::{self, Call, Record};
-use crate::model::{Answer, Bus, Drivers, Lists, Name, Turns, MOST_PARTIES};
+use crate::model::{Access, Answer, Bus, Drivers, Lists, Name, Turns, MOST_PARTIES};
 
 pub trait Subject {
     /// Runs a whole script from the bus of no parties and adds the text of busrun to `out`.
@@ -37,6 +37,13 @@ pub trait Subject {
     /// Whether the drivers and the lines, asked for on copies of the kept bus, leave the same bus.
     fn drivers_like_lines(&self) -> bool;
 
+    /// An access to a register on the kept bus.
+    fn access(&mut self, access: Access) -> Answer;
+
+    /// Accesses, and beside them calls, on copies of the kept bus: the answers to the accesses, and
+    /// whether both left the same bus.
+    fn try_accesses(&self, accesses: &[Access], calls: &[Call]) -> (Vec<Answer>, bool);
+
     /// One record on the kept bus.
     fn record(&mut self, record: Record) -> Answer {
         script::run_record_by(self, record, Self::build, Self::call)
@@ -50,6 +57,7 @@ pub fn enter_list(subject: &mut dyn Subject, list: &[u8]) {
         match piece {
             Piece::Run(turns) => _ = subject.give_turns(turns),
             Piece::Drivers => _ = subject.drivers(),
+            Piece::Access(access) => _ = subject.access(access),
             Piece::Build(lists, system) => _ = subject.build_extended(&lists, system),
             Piece::Record(record) => _ = subject.record(record),
             Piece::Address(_) | Piece::Secondary(_) | Piece::Tail => {}
@@ -88,6 +96,22 @@ pub fn like_lines_by<B: Clone + PartialEq>(
     drivers(&mut one);
     lines(&mut other);
     one == other
+}
+
+/// `try_accesses` for a subject that keeps such a bus.
+pub fn try_accesses_by<B: Clone + PartialEq>(
+    bus: &B,
+    accesses: &[Access],
+    calls: &[Call],
+    access: impl Fn(&mut B, Access) -> Answer,
+    call: impl Fn(&mut B, Call) -> Answer,
+) -> (Vec<Answer>, bool) {
+    let (mut one, mut other) = (bus.clone(), bus.clone());
+    let answers = accesses.iter().map(|&own| access(&mut one, own)).collect();
+    for &own in calls {
+        call(&mut other, own);
+    }
+    (answers, one == other)
 }
 
 /// The model as its own subject.
@@ -135,5 +159,13 @@ impl Subject for ModelSubject {
 
     fn drivers_like_lines(&self) -> bool {
         like_lines_by(&self.bus, Bus::drivers, Bus::lines)
+    }
+
+    fn access(&mut self, access: Access) -> Answer {
+        self.bus.access(access)
+    }
+
+    fn try_accesses(&self, accesses: &[Access], calls: &[Call]) -> (Vec<Answer>, bool) {
+        try_accesses_by(&self.bus, accesses, calls, Bus::access, script::call)
     }
 }

@@ -1,8 +1,9 @@
 //! Records and answers in words, for reports.
 
 use crate::lists::pieces::Piece;
+use crate::lists::stands_for::{stands_for, StandsFor};
 use crate::model::script::{self, Call};
-use crate::model::{Answer, Drivers, Line, Lists, Refusal};
+use crate::model::{Access, Answer, Drivers, Line, Lists, Refusal};
 
 fn switch(value: u8) -> String {
     match value {
@@ -32,6 +33,26 @@ pub fn call([operation, party, value, extra]: Call) -> String {
     }
 }
 
+/// An access by its numbers, and the host call that it stands for.
+pub fn access(access: Access) -> String {
+    let own = match access {
+        Access::Read { party, offset } => format!("read register {offset} of party {party}"),
+        Access::Write {
+            party,
+            offset,
+            value,
+        } => format!("write register {offset} of party {party} value {value:02x}"),
+    };
+    let meaning = match stands_for(access, false) {
+        StandsFor::Call([script::WRITE, ..]) => "write".to_string(),
+        StandsFor::Call(host) => call(host),
+        StandsFor::Mark => "feoi".to_string(),
+        StandsFor::Nothing => "nothing".to_string(),
+        StandsFor::NoRegister => "no register".to_string(),
+    };
+    format!("{own}: {meaning}")
+}
+
 fn secondary(secondary: Option<u8>) -> String {
     secondary.map_or("none".to_string(), |own| own.to_string())
 }
@@ -49,6 +70,7 @@ pub fn piece(bytes: &[u8]) -> String {
     match Piece::of(bytes) {
         Piece::Run(turns) => format!("run of {turns} turns"),
         Piece::Drivers => "drivers".to_string(),
+        Piece::Access(own) => access(own),
         Piece::Address(address) => format!("an address, {address}"),
         Piece::Secondary(own) => format!("a secondary, {}", secondary(own)),
         Piece::Build(_, system) => format!("build from these lists, system party {system}"),

@@ -1,13 +1,17 @@
 //! How often everything came that a comparison has to meet: refusals, events, losses, runs and starts
-//! of the bound here; effects of secondaries, lengths of their lists, numbers of drivers and cases of
-//! requests in modules.
+//! of the bound here; effects of secondaries, lengths of their lists, numbers of drivers, cases of
+//! requests, accesses and feoi's marks in modules.
 
+mod access_counts;
 mod driver_counts;
+mod end_mark_cases;
 mod list_lengths;
 mod mark_counts;
 mod request_cases;
 
+pub use access_counts::Accesses;
 pub use driver_counts::Driven;
+pub use end_mark_cases::{EndMarkCase, EndMarkCases};
 pub use list_lengths::Lengths;
 pub use mark_counts::Marks;
 pub use request_cases::{Asked, Case};
@@ -19,7 +23,7 @@ use crate::model::{Answer, Event, Refusal, Turns};
 pub struct Tally {
     pub lists: u64,
     pub records: u64,
-    pub refusals: [u64; 11],
+    pub refusals: [u64; 12],
     pub events: [u64; 14],
     /// Answers with dropped 1, with dropped 2, with broken 1.
     pub losses: [u64; 3],
@@ -31,6 +35,8 @@ pub struct Tally {
     pub lengths: Lengths,
     pub driven: Driven,
     pub asked: Asked,
+    pub accesses: Accesses,
+    pub end_marks: EndMarkCases,
 }
 
 /// Fewer starts would say little of the bound, on racks without secondaries or with some.
@@ -80,7 +86,9 @@ impl Tally {
         let few = few.map(|(_, word)| word);
         let few = few.chain(self.lengths.missing());
         let few = few.chain(self.driven.missing());
-        never.chain(few).chain(self.asked.missing()).collect()
+        let few = few.chain(self.asked.missing());
+        let few = few.chain(self.accesses.missing());
+        never.chain(few).chain(self.end_marks.missing()).collect()
     }
 
     pub fn print(&self) {
@@ -106,5 +114,7 @@ impl Tally {
         self.lengths.print();
         self.driven.print();
         self.asked.print();
+        self.accesses.print();
+        self.end_marks.print();
     }
 }

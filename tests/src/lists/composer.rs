@@ -2,7 +2,7 @@
 
 use super::pieces;
 use crate::model::script::{self, Record, STEP, WRITE};
-use crate::model::{Answer, Bus, Drivers, Event, Lists, Name, MOST_PARTIES};
+use crate::model::{Access, Answer, Bus, Drivers, Event, Lists, Name, MOST_PARTIES};
 
 #[derive(Clone, Default)]
 pub struct Composer {
@@ -35,6 +35,20 @@ impl Composer {
     pub fn drivers(&mut self) -> Drivers {
         self.records.push(pieces::DRIVERS);
         self.bus.drivers()
+    }
+
+    pub fn access(&mut self, access: Access) -> Answer {
+        self.records.push(pieces::access(access));
+        self.bus.access(access)
+    }
+
+    /// An auxiliary command.
+    pub fn auxiliary(&mut self, party: u8, value: u8) -> Answer {
+        self.access(Access::auxiliary(party, value))
+    }
+
+    pub fn data_out(&mut self, party: u8, value: u8) -> Answer {
+        self.access(Access::data_out(party, value))
     }
 
     pub fn step(&mut self, party: u8) -> Answer {

@@ -2,6 +2,7 @@
 
 use std::collections::VecDeque;
 
+use super::likely_accesses::{self, likely_access};
 use super::likely_arguments::{
     any_party, controller, likely_command, likely_register, likely_turns,
 };
@@ -20,6 +21,8 @@ use crate::model::{Acceptor, Bus, Control, Event, Lists};
 struct Habits {
     /// How often a build has secondaries.
     secondaries: usize,
+    /// How often the bus is built anew, or a build of one is refused.
+    builds: usize,
     disturb: usize,
     wild: usize,
     idle_steps: usize,
@@ -29,6 +32,12 @@ struct Habits {
     drivers: usize,
     /// How often a scenario is one of requests and polls.
     polls: usize,
+    /// How often it is one of feoi's marks.
+    end_marks: usize,
+    /// How often a call goes through a register.
+    registers: usize,
+    /// How often there is an access that fits no plan.
+    accesses: usize,
 }
 
 pub struct Guided {
@@ -69,6 +78,7 @@ impl Guided {
         self.begin(records);
         self.habits = Habits {
             secondaries: 0,
+            builds: 0,
             disturb: 450,
             wild: 0,
             idle_steps: 250,
@@ -76,6 +86,9 @@ impl Guided {
             runs: 15,
             drivers: 15,
             polls: 0,
+            end_marks: 100,
+            registers: 150,
+            accesses: 80,
         };
         for _ in 0..more {
             self.next_call();
@@ -96,6 +109,7 @@ impl Guided {
         let random = &mut self.random;
         self.habits = Habits {
             secondaries: random.pick(&[0, 950]),
+            builds: random.pick(&[0, 0, 0, 8]),
             disturb: random.pick(&[0, 20, 60, 150, 400]),
             wild: random.pick(&[0, 0, 0, 5, 30, 300]),
             idle_steps: random.pick(&[0, 20, 100, 400]),
@@ -103,6 +117,9 @@ impl Guided {
             runs: random.pick(&[0, 0, 5, 20, 100]),
             drivers: random.pick(&[0, 10, 30, 200]),
             polls: random.pick(&[0, 0, 800]),
+            end_marks: random.pick(&[0, 0, 800]),
+            registers: random.pick(&[0, 0, 300, 950]),
+            accesses: random.pick(&[0, 10, 30, 200]),
         };
     }
 
@@ -120,6 +137,10 @@ impl Guided {
         }
         while self.random.per_mille(60) {
             self.call(pieces::DRIVERS);
+        }
+        while self.random.per_mille(60) {
+            let access = likely_access(&self.bus, &mut self.random);
+            self.call(pieces::access(access));
         }
         self.good_build();
     }
@@ -164,6 +185,15 @@ impl Guided {
         self.call(record);
     }
 
+    /// The plan was for the bus that goes.
+    fn build_anew(&mut self) {
+        self.plan.clear();
+        if self.random.per_mille(300) {
+            self.bad_build();
+        }
+        self.good_build();
+    }
+
     /// A wrong mark, a short tail, or both.
     fn bad_ending(&mut self) {
         let mut record = self.wild_record();
@@ -185,10 +215,15 @@ impl Guided {
     }
 
     fn next_call(&mut self) {
+        if self.random.per_mille(self.habits.builds) {
+            return self.build_anew();
+        }
         let record = if self.random.per_mille(self.habits.runs) {
             self.run()
         } else if self.random.per_mille(self.habits.drivers) {
             pieces::DRIVERS
+        } else if self.random.per_mille(self.habits.accesses) {
+            pieces::access(likely_access(&self.bus, &mut self.random))
         } else if self.random.per_mille(self.habits.wild) {
             self.wild_record()
         } else if self.random.per_mille(self.habits.disturb) {
@@ -198,7 +233,26 @@ impl Guided {
         } else {
             self.planned()
         };
+        if self.random.per_mille(self.habits.registers) {
+            return self.through_registers(record);
+        }
         self.call(record);
+    }
+
+    /// The same call by an access, where there is one; END mostly by a mark before it.
+    fn through_registers(&mut self, record: Record) {
+        let Piece::Record([_, _, call @ ..]) = Piece::of(&record) else {
+            return self.call(record);
+        };
+        let random = &mut self.random;
+        let Some(access) = likely_accesses::in_place_of(call, &self.bus, random) else {
+            return self.call(record);
+        };
+        let with_end = matches!(call, [WRITE, _, _, 1]) && random.per_mille(800);
+        let mark = with_end.then(|| likely_accesses::mark(access.party(), random));
+        for access in mark.into_iter().chain([access]) {
+            self.call(pieces::access(access));
+        }
     }
 
     fn run(&mut self) -> Record {
@@ -244,8 +298,8 @@ impl Guided {
     fn planned(&mut self) -> Record {
         loop {
             let Some(goal) = self.plan.pop_front() else {
-                let polls = self.habits.polls;
-                let goals = scenario(&self.bus, &mut self.random, polls);
+                let (polls, end_marks) = (self.habits.polls, self.habits.end_marks);
+                let goals = scenario(&self.bus, &mut self.random, polls, end_marks);
                 self.plan.extend(goals);
                 continue;
             };
@@ -266,6 +320,7 @@ impl Guided {
             Goal::Call(operation, party, value, extra) => {
                 Some(script::record(operation, party, value, extra))
             }
+            Goal::Access(access) => Some(pieces::access(access)),
             Goal::Gain if active.is_some() => None,
             Goal::Gain => Some(self.gain()),
             Goal::Release => active.map(|place| script::record(STANDBY, place as u8, 0, 0)),

@@ -7,11 +7,14 @@ use super::guided::Guided;
 use super::pieces::{self, Piece};
 use crate::compare::{Comparison, Finding};
 use crate::ledger::bound::TURNS_A_PARTY;
+use crate::model::registers::{FEOI, SERIAL_POLL};
 use crate::model::script::{
     self, Record, BUILD, CLEAR, DROP, LAST_OPERATION, LINES, LISTEN, POLL, READ, REQUEST, RESET,
     STANDBY, STEP, TAKE, TALK, WRITE,
 };
-use crate::model::{Acceptor, Bus, Control, Kind, Lists, Mark, Name, Service, Source, ATN, DAV};
+use crate::model::{
+    Acceptor, Access, Bus, Control, Kind, Lists, Mark, Name, Service, Source, ATN, DAV,
+};
 
 const PARTIES: u8 = 3;
 const FIRST_ADDRESS: u8 = 5;
@@ -147,8 +150,19 @@ pub fn prefixes() -> Vec<Vec<Record>> {
     found
 }
 
-/// All operations, some runs and the drivers, with own, other and no such party, and values in and
-/// out of range.
+/// Those that have to do with marks, and some that are refused.
+fn some_accesses(party: u8) -> [Access; 4] {
+    let offset = SERIAL_POLL;
+    [
+        Access::auxiliary(party, FEOI),
+        Access::data_out(party, 0xA5),
+        Access::auxiliary(party, 0xFF),
+        Access::Read { party, offset },
+    ]
+}
+
+/// All operations, some runs, the drivers and some accesses, with own, other and no such party, and
+/// values in and out of range.
 fn all_calls() -> Vec<Record> {
     let mut calls = vec![
         script::record(LINES, 0, 0, 0),
@@ -162,6 +176,7 @@ fn all_calls() -> Vec<Record> {
     }
     calls.push(pieces::DRIVERS);
     for party in [0, 1, 2, PARTIES, 255] {
+        calls.extend(some_accesses(party).map(pieces::access));
         for operation in [STEP, READ, TAKE, STANDBY, CLEAR, RESET, DROP] {
             calls.push(script::record(operation, party, 2, 2));
         }

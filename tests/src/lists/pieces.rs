@@ -1,15 +1,18 @@
-//! The pieces of a list: the records of a script, and among them runs, calls for drivers and builds
-//! from two lists, which no script can ask for. These come in sixes of bytes too, each with a mark
-//! of its own, so that a list is cut as a script is.
+//! The pieces of a list: the records of a script, and among them runs, calls for drivers, accesses to
+//! registers and builds from two lists, which no script can ask for. These come in sixes of bytes too,
+//! each with a mark of its own, so that a list is cut as a script is.
 
 use std::borrow::Cow;
 use std::mem;
 
+use super::stands_for::{self, StandsFor};
 use crate::model::script::{self, Record, BUILD, LINES, RECORD, STEP};
-use crate::model::{Answer, Bus, Lists, Refusal};
+use crate::model::{Access, Answer, Bus, Lists, Refusal};
 
 const RUN_MARK: [u8; 2] = [0x52, 0x54];
 const DRIVERS_MARK: [u8; 2] = [0x44, 0x52];
+const READ_MARK: [u8; 2] = [0x52, 0x44];
+const WRITE_MARK: [u8; 2] = [0x57, 0x52];
 const ADDRESS_MARK: [u8; 2] = [0x41, 0x44];
 const SECONDARY_MARK: [u8; 2] = [0x53, 0x41];
 const BUILD_MARK: [u8; 2] = [0x58, 0x50];
@@ -23,6 +26,8 @@ pub enum Piece {
     Run(u16),
     /// The drivers of each line.
     Drivers,
+    /// A read or a write of a register.
+    Access(Access),
     /// An entry of the first list of the build that follows.
     Address(u8),
     /// An entry of its second list.
@@ -44,6 +49,12 @@ impl Piece {
         match ([mark, second], fields) {
             (RUN_MARK, [_, high, low]) => Piece::Run(u16::from_be_bytes([high, low])),
             (DRIVERS_MARK, _) => Piece::Drivers,
+            (READ_MARK, [party, offset, _]) => Piece::Access(Access::Read { party, offset }),
+            (WRITE_MARK, [party, offset, value]) => Piece::Access(Access::Write {
+                party,
+                offset,
+                value,
+            }),
             (ADDRESS_MARK, [address, ..]) => Piece::Address(address),
             (SECONDARY_MARK, [0, ..]) => Piece::Secondary(None),
             (SECONDARY_MARK, [_, own, _]) => Piece::Secondary(Some(own)),
@@ -61,6 +72,19 @@ pub const fn run(turns: u16) -> Record {
 
 /// A call for the drivers.
 pub const DRIVERS: Record = [DRIVERS_MARK[0], DRIVERS_MARK[1], NO_OPERATION, 0, 0, 0];
+
+/// An access.
+pub const fn access(access: Access) -> Record {
+    let ([mark, second], party, offset, value) = match access {
+        Access::Read { party, offset } => (READ_MARK, party, offset, 0),
+        Access::Write {
+            party,
+            offset,
+            value,
+        } => (WRITE_MARK, party, offset, value),
+    };
+    [mark, second, NO_OPERATION, party, offset, value]
+}
 
 fn address(address: u8) -> Record {
     let [mark, second] = ADDRESS_MARK;
@@ -106,6 +130,7 @@ pub fn enter(bus: &mut Bus, piece: &Piece) -> Answer {
     match piece {
         Piece::Run(turns) => Answer::refused(bus.give_turns(*turns).refusal),
         Piece::Drivers => bus.drivers().answer,
+        Piece::Access(access) => bus.access(*access),
         Piece::Address(_) | Piece::Secondary(_) => Answer::NOTHING,
         Piece::Build(lists, system) => bus.build_extended(lists, *system),
         Piece::Record(record) => script::run_record(bus, *record),
@@ -122,15 +147,16 @@ pub fn bus_after(list: &[u8]) -> Bus {
     bus
 }
 
-/// The script that a list stands for: each run is its steps, and a refused one is none. Where the
-/// drivers are asked for it has the lines, which leave the same bus.
+/// The script that a list stands for: each run is its steps, and each access the host call that it
+/// stands for; a refused run and an access that stands for none are nothing. Where the drivers are
+/// asked for it has the lines, which leave the same bus.
 /// None if the list has a build from lists.
 pub fn as_script(list: &[u8]) -> Option<Cow<'_, [u8]>> {
     let mut all_records = true;
     for bytes in list.chunks(RECORD) {
         match Piece::of(bytes) {
             Piece::Address(_) | Piece::Secondary(_) | Piece::Build(..) => return None,
-            Piece::Run(_) | Piece::Drivers => all_records = false,
+            Piece::Run(_) | Piece::Drivers | Piece::Access(_) => all_records = false,
             Piece::Record(_) | Piece::Tail => {}
         }
     }
@@ -142,23 +168,25 @@ pub fn as_script(list: &[u8]) -> Option<Cow<'_, [u8]>> {
 }
 
 fn with_records_alone(list: &[u8]) -> Vec<u8> {
+    // A run's order needs the number of parties, and an access the mark of its party.
     let mut bus = Bus::new();
     let mut script = Vec::new();
     for bytes in list.chunks(RECORD) {
-        match Piece::of(bytes) {
+        let piece = Piece::of(bytes);
+        match &piece {
             Piece::Run(turns) => {
-                let steps = bus.order_of(turns);
+                let steps = bus.order_of(*turns);
                 script.extend(steps.flat_map(|party| script::record(STEP, party, 0, 0)));
             }
             Piece::Drivers => script.extend(script::record(LINES, 0, 0, 0)),
-            piece => {
-                // A run's order needs the number of parties, which no other call changes.
-                if let Piece::Record(build @ [_, _, BUILD, ..]) = piece {
-                    script::run_record(&mut bus, build);
+            Piece::Access(access) => {
+                if let StandsFor::Call(_) = stands_for::on_bus(*access, &bus) {
+                    script.extend(stands_for::as_record(*access, &bus));
                 }
-                script.extend_from_slice(bytes);
             }
+            _ => script.extend_from_slice(bytes),
         }
+        enter(&mut bus, &piece);
     }
     script
 }

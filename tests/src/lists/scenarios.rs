@@ -1,4 +1,7 @@
-//! What a guided list sets out to do: scenarios of chance, each a short list of goals.
+//! What a guided list sets out to do: scenarios of chance, each a short list of goals. Those of feoi's
+//! marks are in a module.
+
+mod end_marks;
 
 use super::command_codes::{
     self, DCL, GET, LISTEN_ADDRESS, NEITHER, NO_MEANING, SDC, SECONDARY, SPD, SPE, TALK_ADDRESS,
@@ -9,12 +12,14 @@ use super::likely_arguments::{
 };
 use super::random_numbers::Random;
 use crate::model::script::{CLEAR, DROP, LISTEN, POLL, REQUEST, RESET, STANDBY, TAKE, TALK, WRITE};
-use crate::model::{Bus, RSV};
+use crate::model::{Access, Bus, RSV};
 
 #[derive(Clone, Copy, Debug)]
 pub enum Goal {
     /// Operation, party, value, extra.
     Call(u8, u8, u8, u8),
+    /// A read or a write of a register.
+    Access(Access),
     /// Some party becomes active: out of standby, else by interface clear.
     Gain,
     /// The active party goes to standby.
@@ -55,13 +60,16 @@ const SCENARIOS: [Scenario; 15] = [
     nobody_listens,
 ];
 
-/// Goals for one scenario of chance, never none; `polls` times in a thousand it has requests and polls.
-pub fn scenario(bus: &Bus, random: &mut Random, polls: usize) -> Vec<Goal> {
+/// Goals for one scenario of chance, never none; `polls` times in a thousand it has requests and polls,
+/// and `marks` times in a thousand of the others it has feoi's marks.
+pub fn scenario(bus: &Bus, random: &mut Random, polls: usize, marks: usize) -> Vec<Goal> {
     let mut goals = Vec::new();
     let by_two_bytes = bus.has_secondaries() && random.per_mille(300);
     let any = random.pick(&SCENARIOS);
     let chosen = if random.per_mille(polls) {
         second_requests
+    } else if random.per_mille(marks) {
+        end_marks::marked_bytes
     } else if by_two_bytes {
         secondaries
     } else {
@@ -121,6 +129,10 @@ fn address_and_send(bus: &Bus, random: &mut Random, goals: &mut Vec<Goal>) {
 
 fn serial_poll(bus: &Bus, random: &mut Random, goals: &mut Vec<Goal>) {
     let polled = any_party(bus, random);
+    poll_of(bus, random, goals, polled);
+}
+
+fn poll_of(bus: &Bus, random: &mut Random, goals: &mut Vec<Goal>, polled: u8) {
     goals.push(Goal::Call(POLL, polled, likely_register(random), 0));
     goals.push(Goal::Gain);
     if random.per_mille(800) {
@@ -178,12 +190,13 @@ fn address_for_poll(bus: &Bus, random: &mut Random, goals: &mut Vec<Goal>, party
 
 /// What may or may not take a request back.
 fn between_polls(bus: &Bus, random: &mut Random, goals: &mut Vec<Goal>, party: u8) {
-    let call = match random.below(6) {
+    let call = match random.below(7) {
         0 => Goal::Call(REQUEST, party, 0, 0),
         1 => Goal::Call(RESET, party, 0, 0),
         2 => Goal::Call(POLL, party, likely_register(random), 0),
         3 => Goal::Call(CLEAR, bus.system as u8, 0, 0),
         4 => Goal::Data,
+        5 => Goal::Command(DCL),
         _ => Goal::Call(REQUEST, party, 1, 0),
     };
     goals.push(call);

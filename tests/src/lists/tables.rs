@@ -1,9 +1,12 @@
 //! Tables run whole: builds, operations, places, poll registers, runs and damaged scripts here; heard
-//! bytes, second requests, drivers and starts of the bound in modules of their own.
+//! bytes, second requests, drivers, registers, feoi's marks and starts of the bound in modules of their
+//! own.
 
 pub mod bound_starts;
 pub mod drivers;
+pub mod end_marks;
 pub mod heard_bytes;
+pub mod registers;
 pub mod second_requests;
 
 use super::command_codes::SPE;
@@ -169,6 +172,8 @@ pub fn run(comparison: &mut Comparison, seed: u64) -> Done {
     poll_registers(comparison)?;
     second_requests::run(comparison)?;
     drivers::run(comparison)?;
+    registers::run(comparison, seed)?;
+    end_marks::run(comparison)?;
     runs(comparison, &mut Guided::new(seed))?;
     damaged_scripts(comparison, &mut Random::new(seed))
 }

@@ -1,9 +1,9 @@
 //! Runs with one mistake each; every single call is right.
 
-use crate::compare::subject::{like_lines_by, try_run_by, Subject};
+use crate::compare::subject::{like_lines_by, try_accesses_by, try_run_by, Subject};
 use crate::model::script::{self, Call};
 use crate::model::{
-    Answer, Bus, Drivers, Event, Lists, Name, Refusal, Turns, Waiting, MOST_PARTIES,
+    Access, Answer, Bus, Drivers, Event, Lists, Name, Refusal, Turns, Waiting, MOST_PARTIES,
 };
 
 /// A run. The number is the machine's to keep between runs, 0 at the start.
@@ -165,5 +165,13 @@ impl Subject for WrongRun {
 
     fn drivers_like_lines(&self) -> bool {
         like_lines_by(&self.bus, Bus::drivers, Bus::lines)
+    }
+
+    fn access(&mut self, access: Access) -> Answer {
+        self.bus.access(access)
+    }
+
+    fn try_accesses(&self, accesses: &[Access], calls: &[Call]) -> (Vec<Answer>, bool) {
+        try_accesses_by(&self.bus, accesses, calls, Bus::access, script::call)
     }
 }

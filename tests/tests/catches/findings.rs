@@ -2,11 +2,11 @@
 
 use meskvorn_tests::compare::subject::Subject;
 use meskvorn_tests::compare::{Comparison, Finding};
-use meskvorn_tests::ledger::tally::Asked;
-use meskvorn_tests::ledger::{Ledger, Requests};
+use meskvorn_tests::ledger::tally::{Asked, EndMarkCases};
+use meskvorn_tests::ledger::{EndMarks, Ledger, Requests};
 use meskvorn_tests::lists::guided::Guided;
 use meskvorn_tests::lists::pieces::{self, Piece};
-use meskvorn_tests::lists::tables;
+use meskvorn_tests::lists::{stands_for, tables};
 use meskvorn_tests::model::script::Record;
 use meskvorn_tests::model::Answer;
 use meskvorn_tests::wrong::Wrong;
@@ -14,7 +14,7 @@ use meskvorn_tests::wrong::Wrong;
 /// Guided lists until so many records were compared, then the tables.
 pub fn first_finding(subject: &mut dyn Subject, records: u64) -> Option<Finding> {
     let mut comparison = Comparison::new(subject);
-    let mut guided = Guided::new(2);
+    let mut guided = Guided::new(3);
     while comparison.tally.records < records {
         if let Err(finding) = comparison.list(guided.list()) {
             return Some(finding);
@@ -28,13 +28,18 @@ pub fn ledger_says(fault: &str, list: &[u8]) -> Option<&'static str> {
     ledger_of(&mut Wrong::named(fault), list)
 }
 
-/// A call or a build by a wrong machine, with the answer; None for any other piece.
+/// A call, a build or an access by a wrong machine, with the answer; None for any other piece. An
+/// access is the host call that it stands for.
 fn call_of(machine: &mut Wrong, piece: &Piece) -> Option<(Record, Answer)> {
     match piece {
         Piece::Record(record) => Some((*record, machine.record(*record))),
         Piece::Build(lists, system) => {
             let answer = machine.build_extended(lists, *system);
             Some((pieces::build_of_lists(*system), answer))
+        }
+        Piece::Access(access) => {
+            let record = stands_for::as_record(*access, &machine.bus);
+            Some((record, machine.access(*access)))
         }
         _ => None,
     }
@@ -65,5 +70,19 @@ pub fn condition_of(machine: &mut Wrong, list: &[u8]) -> Option<&'static str> {
         let (record, answer) = call_of(machine, &piece)?;
         let entered = requests.enter(&before, record, &answer, &machine.bus, &mut asked);
         entered.err()
+    })
+}
+
+/// The same by the books of feoi's marks alone.
+pub fn end_marks_of(machine: &mut Wrong, list: &[u8]) -> Option<&'static str> {
+    let (mut marks, mut cases) = (EndMarks::new(), EndMarkCases::default());
+    machine.start();
+    pieces::of_list(list).find_map(|piece| {
+        let (record, answer) = call_of(machine, &piece)?;
+        let entered = match piece {
+            Piece::Access(access) => pieces::access(access),
+            _ => record,
+        };
+        marks.enter(entered, &answer, &mut cases).err()
     })
 }

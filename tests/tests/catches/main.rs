@@ -2,8 +2,10 @@
 
 mod any_memory;
 mod drivers;
+mod end_marks;
 mod findings;
 mod machine;
+mod registers;
 mod runs;
 mod second_requests;
 mod secondaries;

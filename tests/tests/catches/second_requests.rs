@@ -66,7 +66,7 @@ fn the_condition_alone_catches_by_chance() {
     for (name, rule) in RULES {
         let mut machine = Wrong::named(name);
         let mut guided = Guided::new(1);
-        let said = (0..2000).find_map(|_| condition_of(&mut machine, guided.list()));
+        let said = (0..5000).find_map(|_| condition_of(&mut machine, guided.list()));
         assert_eq!(said, Some(*rule), "{name}");
     }
 }

@@ -5,7 +5,7 @@ use meskvorn_tests::compare::subject::{ModelSubject, Subject};
 use meskvorn_tests::compare::{builds, Comparison, Difference};
 use meskvorn_tests::lists::hex::records;
 use meskvorn_tests::model::script::{Call, LINES, RECORD};
-use meskvorn_tests::model::{Answer, Drivers, Lists, Name, Turns};
+use meskvorn_tests::model::{Access, Answer, Drivers, Lists, Name, Turns};
 
 /// Agrees record by record and differs in the text alone.
 struct WrongText(ModelSubject);
@@ -41,6 +41,12 @@ impl Subject for WrongText {
     }
     fn drivers_like_lines(&self) -> bool {
         self.0.drivers_like_lines()
+    }
+    fn access(&mut self, access: Access) -> Answer {
+        self.0.access(access)
+    }
+    fn try_accesses(&self, accesses: &[Access], calls: &[Call]) -> (Vec<Answer>, bool) {
+        self.0.try_accesses(accesses, calls)
     }
 }
 
@@ -96,6 +102,12 @@ impl Subject for WrongByNumber {
     }
     fn drivers_like_lines(&self) -> bool {
         self.model.drivers_like_lines()
+    }
+    fn access(&mut self, access: Access) -> Answer {
+        self.model.access(access)
+    }
+    fn try_accesses(&self, accesses: &[Access], calls: &[Call]) -> (Vec<Answer>, bool) {
+        self.model.try_accesses(accesses, calls)
     }
 }
 

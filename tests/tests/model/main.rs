@@ -2,9 +2,11 @@
 
 mod bound;
 mod drivers;
+mod end_marks;
 mod examples;
 mod machine;
 mod refusals;
+mod registers;
 mod script_lines;
 mod second_requests;
 mod secondaries;
