@@ -60,6 +60,11 @@ static int filled(const uint8_t *bytes, size_t count)
     return count == 0;
 }
 
+static inline int same_bus(const meskvorn_bus *one, const meskvorn_bus *other)
+{
+    return memcmp(one, other, sizeof *one) == 0;
+}
+
 /* An event without a byte has the byte 0. */
 static void print_answer(char text[64], meskvorn_answer answer)
 {

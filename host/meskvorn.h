@@ -1,9 +1,10 @@
 /* The GPIB bus of document 01 for C and C++ programs. Link libmeskvorn.a, which `rt staticlib meskvorn` writes to
  * target/staticlib.
  *
- * meskvorn_call, meskvorn_build, meskvorn_build_extended, meskvorn_name, meskvorn_turns, meskvorn_drivers and
- * meskvorn_run are the proved functions, for pointers that are valid for their lengths and do not overlap. The inline
- * functions below them take the answer apart and take NULL as well; they are tested. */
+ * meskvorn_call, meskvorn_build, meskvorn_build_extended, meskvorn_read_register, meskvorn_write_register,
+ * meskvorn_name, meskvorn_turns, meskvorn_drivers and meskvorn_run are the proved functions, for pointers that are
+ * valid for their lengths and do not overlap. The inline functions below them take the answer apart and take NULL as
+ * well; they are tested. */
 #ifndef MESKVORN_H
 #define MESKVORN_H
 
@@ -23,7 +24,7 @@ typedef struct meskvorn_bus {
     uint8_t rows[16][MESKVORN_ROW];
 } meskvorn_bus;
 
-/* Document 01's table of refusals. */
+/* Document 01's table of refusals, and those that document 02 adds. */
 typedef enum meskvorn_refusal {
     MESKVORN_REFUSAL_ACCEPTED = 0,
     MESKVORN_REFUSAL_NOPARTY = 1,
@@ -35,7 +36,8 @@ typedef enum meskvorn_refusal {
     MESKVORN_REFUSAL_STANDING = 7,
     MESKVORN_REFUSAL_FULL = 8,
     MESKVORN_REFUSAL_EMPTY = 9,
-    MESKVORN_REFUSAL_RECORD = 10
+    MESKVORN_REFUSAL_RECORD = 10,
+    MESKVORN_REFUSAL_NOREG = 11
 } meskvorn_refusal;
 
 /* Document 01's events, in its order. */
@@ -81,6 +83,24 @@ enum {
     MESKVORN_LINE_NRFD = 16,
     MESKVORN_LINE_EOI = 8,
     MESKVORN_LINE_SRQ = 4
+};
+
+/* The registers of the TMS9914A that a party has, by offset; document 001, tables 2-1 and 2-2. */
+enum { MESKVORN_READ_BUS_STATUS = 3, MESKVORN_READ_DATA_IN = 7 };
+enum { MESKVORN_WRITE_AUXILIARY = 3, MESKVORN_WRITE_SERIAL_POLL = 5, MESKVORN_WRITE_DATA_OUT = 7 };
+
+/* The auxiliary commands that a party has, table 2-3, and the bit that sets what a command without it clears. */
+enum {
+    MESKVORN_AUX_SWRST = 0,
+    MESKVORN_AUX_NBAF = 5,
+    MESKVORN_AUX_FEOI = 8,
+    MESKVORN_AUX_LON = 9,
+    MESKVORN_AUX_TON = 10,
+    MESKVORN_AUX_GTS = 11,
+    MESKVORN_AUX_TCA = 12,
+    MESKVORN_AUX_SIC = 15,
+    MESKVORN_AUX_RSV2 = 24,
+    MESKVORN_AUX_SET = 128
 };
 
 /* The lines, by their place among the masks and counts of meskvorn_drivers. */
@@ -147,6 +167,12 @@ uint64_t meskvorn_build(uint8_t (*rows)[MESKVORN_ROW], const uint8_t *addresses,
  * secondaries than addresses is refused with 2. */
 uint64_t meskvorn_build_extended(uint8_t (*rows)[MESKVORN_ROW], const uint8_t *addresses, size_t count,
                                  const uint8_t *secondaries, size_t given, uint8_t system);
+
+/* A party's read and write of a chip's register, each answered as the call that it stands for. Offsets and commands
+ * without a name above are refused with 11, after 1 and before the refusals of that call. feoi gives END to the party's
+ * next accepted write to data out, unless a reset comes before. */
+uint64_t meskvorn_read_register(uint8_t (*rows)[MESKVORN_ROW], uint8_t party, uint8_t offset);
+uint64_t meskvorn_write_register(uint8_t (*rows)[MESKVORN_ROW], uint8_t party, uint8_t offset, uint8_t value);
 
 /* What a build named the party: the low byte is its address, the high byte its secondary address or
  * MESKVORN_NO_SECONDARY. */
@@ -308,6 +334,25 @@ static inline meskvorn_answer meskvorn_bus_drop(meskvorn_bus *bus, uint8_t party
 static inline meskvorn_answer meskvorn_bus_lines(meskvorn_bus *bus)
 {
     return meskvorn_bus_call(bus, MESKVORN_OPERATION_LINES, 0, 0, 0);
+}
+
+/* A chip's register by its offset, MESKVORN_READ_BUS_STATUS or MESKVORN_READ_DATA_IN. */
+static inline meskvorn_answer meskvorn_bus_read_register(meskvorn_bus *bus, uint8_t party, uint8_t offset)
+{
+    if (bus == NULL) {
+        return meskvorn_answer_of(MESKVORN_REFUSAL_RECORD);
+    }
+    return meskvorn_answer_of(meskvorn_read_register(bus->rows, party, offset));
+}
+
+/* MESKVORN_WRITE_AUXILIARY takes a command, MESKVORN_AUX_TON | MESKVORN_AUX_SET say; the other two take any byte. */
+static inline meskvorn_answer meskvorn_bus_write_register(meskvorn_bus *bus, uint8_t party, uint8_t offset,
+                                                          uint8_t value)
+{
+    if (bus == NULL) {
+        return meskvorn_answer_of(MESKVORN_REFUSAL_RECORD);
+    }
+    return meskvorn_answer_of(meskvorn_write_register(bus->rows, party, offset, value));
 }
 
 /* Which parties drive each line. With a NULL bus all masks and counts are 0. */

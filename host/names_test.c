@@ -1,6 +1,6 @@
 /* Every name of meskvorn.h: its number, and what the library answers where the name stands for an answer.
- * Refusals, events, operations and lines have the numbers of documents 01 and 02, and what is expected of a call is
- * worked out from these. */
+ * Refusals, events, operations and lines have the numbers of documents 01 and 02, registers and their commands those of
+ * document 001, and what is expected of a call is worked out from these. */
 #include "check.h"
 
 typedef struct entry {
@@ -22,6 +22,7 @@ static const entry refusals[] = {
     NAME(MESKVORN_REFUSAL_FULL, 8),
     NAME(MESKVORN_REFUSAL_EMPTY, 9),
     NAME(MESKVORN_REFUSAL_RECORD, 10),
+    NAME(MESKVORN_REFUSAL_NOREG, 11),
 };
 
 static const entry events[] = {
@@ -55,6 +56,24 @@ static const entry operations[] = {
     NAME(MESKVORN_OPERATION_DROP, 11),
     NAME(MESKVORN_OPERATION_LINES, 12),
     NAME(MESKVORN_OPERATION_SECOND_REQUEST, 13),
+};
+
+static const entry registers[] = {
+    NAME(MESKVORN_READ_BUS_STATUS, 3),
+    NAME(MESKVORN_READ_DATA_IN, 7),
+    NAME(MESKVORN_WRITE_AUXILIARY, 3),
+    NAME(MESKVORN_WRITE_SERIAL_POLL, 5),
+    NAME(MESKVORN_WRITE_DATA_OUT, 7),
+    NAME(MESKVORN_AUX_SWRST, 0),
+    NAME(MESKVORN_AUX_NBAF, 5),
+    NAME(MESKVORN_AUX_FEOI, 8),
+    NAME(MESKVORN_AUX_LON, 9),
+    NAME(MESKVORN_AUX_TON, 10),
+    NAME(MESKVORN_AUX_GTS, 11),
+    NAME(MESKVORN_AUX_TCA, 12),
+    NAME(MESKVORN_AUX_SIC, 15),
+    NAME(MESKVORN_AUX_RSV2, 24),
+    NAME(MESKVORN_AUX_SET, 128),
 };
 
 static const entry others[] = {
@@ -96,6 +115,7 @@ static void numbers_and_words(void)
     EXPECT_NUMBERS(refusals);
     EXPECT_NUMBERS(events);
     EXPECT_NUMBERS(operations);
+    EXPECT_NUMBERS(registers);
     EXPECT_NUMBERS(others);
     CHECK(MESKVORN_NO_ROOM == SIZE_MAX);
     for (k = 0; k < sizeof words / sizeof words[0]; k++) {
@@ -148,6 +168,7 @@ static void refusals_of_calls(void)
     EXPECT_REFUSAL(MESKVORN_REFUSAL_ACCEPTED, meskvorn_bus_write(bus, 0, 0x3f, 0));
     EXPECT_REFUSAL(MESKVORN_REFUSAL_FULL, meskvorn_bus_write(bus, 0, 0x3f, 0));
     EXPECT_REFUSAL(MESKVORN_REFUSAL_RECORD, meskvorn_bus_step(NULL, 0));
+    EXPECT_REFUSAL(MESKVORN_REFUSAL_NOREG, meskvorn_bus_read_register(bus, 0, 0));
     EXPECT_REFUSAL(MESKVORN_REFUSAL_BADBUILD, meskvorn_bus_build(bus, addresses, 16, 0));
     CHECK(meskvorn_bus_give_turns(bus, 1, NULL) == MESKVORN_REFUSAL_NOPARTY);
 }

@@ -3,7 +3,7 @@
 /// The most parties that a bus has.
 pub const MOST_PARTIES: usize = 15;
 
-/// Document 01's table of refusals, by number.
+/// Document 01's table of refusals, by number, and those that document 02 adds.
 #[derive(Clone, Copy, PartialEq, Eq, Debug)]
 #[repr(u8)]
 pub enum Refusal {
@@ -18,11 +18,12 @@ pub enum Refusal {
     Full,
     Empty,
     Record,
+    NoReg,
 }
 
 impl Refusal {
     /// By number.
-    pub const ALL: [Refusal; 11] = [
+    pub const ALL: [Refusal; 12] = [
         Refusal::Accepted,
         Refusal::NoParty,
         Refusal::BadBuild,
@@ -34,6 +35,7 @@ impl Refusal {
         Refusal::Full,
         Refusal::Empty,
         Refusal::Record,
+        Refusal::NoReg,
     ];
 }
 

@@ -4,6 +4,7 @@
 mod answer;
 mod drivers;
 mod name;
+pub mod registers;
 
 pub use answer::{Answer, Event, Refusal, Turns, MOST_PARTIES};
 pub use drivers::{Drivers, Line, LineDrivers};
@@ -28,6 +29,8 @@ extern "C" {
         system: u8,
     ) -> u64;
     fn meskvorn_name(rows: *const Row, party: u8) -> u16;
+    fn meskvorn_read_register(rows: *mut Row, party: u8, offset: u8) -> u64;
+    fn meskvorn_write_register(rows: *mut Row, party: u8, offset: u8, value: u8) -> u64;
     fn meskvorn_turns(rows: *mut Row, turns: u16, counts: *mut u16) -> u8;
     fn meskvorn_drivers(rows: *mut Row, masks: *mut u16, counts: *mut u32) -> u64;
     fn meskvorn_run(script: *const u8, length: usize, out: *mut u8, room: usize) -> usize;
@@ -206,6 +209,20 @@ impl Bus {
     /// The lines, as the answer's byte: ATN 128, DAV 64, NDAC 32, NRFD 16, EOI 8, SRQ 4.
     pub fn lines(&mut self) -> Answer {
         self.of_party(Operation::Lines, 0)
+    }
+
+    /// A read of one of the chip's registers, by its offset: what the call answers that it stands for. An
+    /// offset that is not in [`registers::read`] is refused with [`Refusal::NoReg`].
+    pub fn read_register(&mut self, party: u8, offset: u8) -> Answer {
+        // SAFETY: the rows are this bus's own.
+        Answer::of(unsafe { meskvorn_read_register(self.rows.as_mut_ptr(), party, offset) })
+    }
+
+    /// A write to one of them, likewise. [`Refusal::NoReg`] is for an offset that is not in
+    /// [`registers::write`], and for a command that is not in [`registers::auxiliary`].
+    pub fn write_register(&mut self, party: u8, offset: u8, value: u8) -> Answer {
+        // SAFETY: the rows are this bus's own.
+        Answer::of(unsafe { meskvorn_write_register(self.rows.as_mut_ptr(), party, offset, value) })
     }
 
     /// Which parties drive each line, and how many they are. Never refused.

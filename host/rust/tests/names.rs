@@ -1,8 +1,10 @@
-//! The numbers and words behind the names: those of documents 01 and 02.
+//! The numbers and words behind the names: those of documents 01 and 02, and of document 001's tables 2-1
+//! to 2-3.
 
+use meskvorn::registers::{auxiliary, read, write};
 use meskvorn::{Bus, Event, Line, Operation, Refusal, MOST_PARTIES};
 
-const REFUSALS: [(Refusal, u8); 11] = [
+const REFUSALS: [(Refusal, u8); 12] = [
     (Refusal::Accepted, 0),
     (Refusal::NoParty, 1),
     (Refusal::BadBuild, 2),
@@ -14,6 +16,7 @@ const REFUSALS: [(Refusal, u8); 11] = [
     (Refusal::Full, 8),
     (Refusal::Empty, 9),
     (Refusal::Record, 10),
+    (Refusal::NoReg, 11),
 ];
 
 const EVENTS: [(Event, u8, &str); 14] = [
@@ -97,6 +100,17 @@ fn lines() {
     for (line, bit) in LINES {
         assert_eq!(line.bit(), bit, "{line:?}");
     }
+}
+
+#[test]
+fn registers() {
+    assert_eq!([read::BUS_STATUS, read::DATA_IN], [3, 7]);
+    let written = [write::AUXILIARY, write::SERIAL_POLL, write::DATA_OUT];
+    assert_eq!(written, [3, 5, 7]);
+    use auxiliary::*;
+    let commands = [SWRST, NBAF, FEOI, LON, TON, GTS, TCA, SIC, RSV2];
+    assert_eq!(commands, [0, 5, 8, 9, 10, 11, 12, 15, 24]);
+    assert_eq!(SET, 128);
 }
 
 #[test]
