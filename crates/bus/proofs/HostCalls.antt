@@ -6,7 +6,7 @@ use mathlib.Core.Bool.{Bool, true, false, cond}
 use Prim.Native.Nat.{ℕ, _<_}
 use native.Mathlib.Omega.{arith}
 use Rattle.offer.specs.Offer.{isFull}
-use Rattle.party.specs.Parts.{withHeld, withInput}
+use Rattle.party.specs.Parts.{withInput}
 use Rattle.parties.specs.Lines.{linesByte}
 use Rattle.role.proofs.Logic.{no}
 use Rattle.bus.specs.Types.{Place, Party, Slot, Empty, Full, Bus, Act, Said}
@@ -17,7 +17,7 @@ use Rattle.bus.specs.Types.act-of
 use Rattle.effect.specs.Calls.{isAccepted, isOn}
 use Rattle.bus.specs.Record.{here, lines}
 use Rattle.effect.specs.Effects.{say, does, withStanding}
-use Rattle.host_calls.specs.HostCalls.{readOut, pollRegister, secondRequest, dropHeld, dataOut, markEnd}
+use Rattle.host_calls.specs.HostCalls.{write, readOut, pollRegister, secondRequest, dropHeld, dataOut, markEnd}
 use Rattle.bus.specs.Settling.{settle, follow}
 use Rattle.refusals.specs.Refusals.{ofSwitch, writeRefusal, own}
 use Rattle.bus.specs.Machine.{viewAt, refusal, accepted}
@@ -55,7 +55,7 @@ module _ (b : Bus) (I : Inv b) (p : Place) where
       → Good b (call-of.Of p (act-of.Write v e)) (accepted (lines b) b (call-of.Of p (act-of.Write v e)))
   write-good v e ok =
       let r = known b p (ofSwitch e (writeRefusal (viewAt p (lines b) b))) ok in
-      let q = withHeld (Full v (isOn e)) (here b (p .0)) in
+      let q = write v (isOn e) (viewAt p (lines b) b) .party in
       fills-good (act-of.Write v e) q (r .0) (not-full (switched e (writeRefusal (viewAt p (lines b) b)) (r .1) .1))
       (λ j x. no (cc)) refl (plainly (here b (p .0)) q refl refl refl refl (λ x. x)) refl
 

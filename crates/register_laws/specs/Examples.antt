@@ -89,8 +89,8 @@ commands x v rest =
 
 -- Both chips are reset and released. Of two bytes the second, which comes after feoi, has END; what stands is seen by
 -- bus status: DAV and NDAC, then EOI too.
-abbrev pub R1 : List Run
-R1 =
+abbrev pub A1 : List Run
+A1 =
     run (5 ∷ 6 ∷ []) (
     (auxiliary 0 swrst, ok)
     ∷ (auxiliary 1 swrst, ok)
@@ -121,8 +121,8 @@ R1 =
 
 -- Who keeps the mark: a refused data out, the host's own write, nbaf, interface clear and the attention after it, a
 -- reset that is refused. It is for one byte, however often feoi was written.
-abbrev pub R2 : List Run
-R2 =
+abbrev pub A2 : List Run
+A2 =
     run (5 ∷ 6 ∷ []) (addressed (
     (auxiliary 0 feoi, ok)
     ∷ (write 0 0x41 0, ok)
@@ -156,8 +156,8 @@ R2 =
     ∷ []
 
 -- Who takes it away: a command, which has no END, and a reset, the host's own as well as swrst.
-abbrev pub R3 : List Run
-R3 =
+abbrev pub A3 : List Run
+A3 =
     run (5 ∷ 6 ∷ []) (
     (auxiliary 0 sic, ok)
     ∷ (auxiliary 0 feoi, ok)
@@ -177,8 +177,8 @@ R3 =
 
 -- A serial poll: party 1 asks for service by rsv2, which bus status shows; party 0 clears the interface, sends SPE and
 -- the talk address, goes to standby and reads the status byte, then takes control again.
-abbrev pub R4 : List Run
-R4 =
+abbrev pub A4 : List Run
+A4 =
     run (4 ∷ 5 ∷ []) (
     (serial-poll 1 0x01, ok)
     ∷ (auxiliary 1 rsv2, ok)
@@ -203,8 +203,8 @@ R4 =
     ∷ []
 
 -- swrst in mid-byte: of the talker, whose byte is broken off; of the listener, who has taken it and loses it.
-abbrev pub R5 : List Run
-R5 =
+abbrev pub A5 : List Run
+A5 =
     run (5 ∷ 6 ∷ []) (addressed (
     (data-out 0 0x41, ok)
     ∷ (step 0, moved)
@@ -227,8 +227,8 @@ R5 =
 
 -- The refusals: NOPARTY, then NOREG for offsets and codes that are not carried, then those of the host's calls. Bits 32
 -- and 64 of a command are not looked at; what is cleared does nothing.
-abbrev pub R6 : List Run
-R6 =
+abbrev pub A6 : List Run
+A6 =
     run (5 ∷ 6 ∷ []) (
     (call-of.Of (place 2) (standsFor (Read 0)), refused ruling.NoParty)
     ∷ (bus-status 2, refused ruling.NoParty)
@@ -253,7 +253,7 @@ R6 =
     ∷ []
 
 abbrev pub registers : List (List Run)
-registers = R1 ∷ R2 ∷ R3 ∷ R4 ∷ R5 ∷ R6 ∷ []
+registers = A1 ∷ A2 ∷ A3 ∷ A4 ∷ A5 ∷ A6 ∷ []
 
 -- Each row's runs answer as the row says.
 abbrev pub RegisterExamples : Type 0

@@ -20,7 +20,6 @@ use Rattle.parties.specs.Places.{at, some, each}
 use Rattle.parties.proofs.Places.{set-part, each-part}
 use Rattle.effect.specs.Calls.{placeOf, actNumber}
 use Rattle.effect.specs.Stands.{ofCommand}
-use Rattle.effect.specs.Effects.{withStanding}
 use Rattle.source_step.specs.SourceStep.{ready, ended, sourceIn}
 use Rattle.acceptor_step.specs.AcceptorStep.{takes, acceptorIn}
 use Rattle.accepted.specs.Accepted.{step, effectOf}
@@ -29,8 +28,9 @@ use Rattle.bus.specs.Record.{here, lines}
 use Rattle.bus.specs.Settling.{followed}
 use Rattle.bus.specs.Machine as m
 use Rattle.bus.specs.declared.Bus.{Bus}
-use Rattle.bus.specs.Types.{Name, Party, Idle, Active, Source, Sids, Sgns, Sdys, Strs, Acceptor, Aids, Anrs, Acrs, Acds}
-use Rattle.bus.specs.Types.{Awns, Slot, Empty, Full, Kind, Standing, Nothing, Byte, Call, After, Outcome, Effect, View}
+use Rattle.bus.specs.Types.{Place, Name, Party, Idle, Active, Source, Sids, Sgns, Sdys, Strs, Acceptor, Aids, Anrs}
+use Rattle.bus.specs.Types.{Acrs, Acds, Awns, Slot, Empty, Full, Kind, Standing, Nothing, Byte, Call, After, Outcome}
+use Rattle.bus.specs.Types.{Effect, View}
 use Rattle.bus.specs.Types.after
 use Rattle.bus.specs.Types.call-of
 use Rattle.bus.specs.Types.act-of
@@ -80,43 +80,12 @@ module _ (v : View) where
       (λ _. source-same (p .source) (offer (isPolled t p) p) (kindOf (isActive p) (isPolled t p)))
       (λ _. acceptor-same (p .acceptor))
 
-  -- what an act leaves: the name, and these latches
-  abbrev Latched : Latches → Effect → Type 0
-  Latched l e = kept (e .party) ≡ (v .party .role .name, l)
-
-  read-latched : (s : Slot) → Latched (v .party .latches) (withStanding (v .standing) (readOut s (v .party)))
-  read-latched Empty = refl
-  read-latched (Full x e) = refl
-
 -- the latches that an accepted call leaves its party with: feoi, then reset and a byte through data out
 abbrev pub latched : Call → Latches → Latches
 latched (call-of.Of i a) l = let n = actNumber a in
     record { feoi = cond (eqb n 15) true (cond (eqb n 10 || eqb n 14) false (l .feoi)) }
 latched call-of.Lines l = l
 latched call-of.Drivers l = l
-
-pub effect-kept : (v : View) (c : Call) → Latched v (latched c (v .party .latches)) (effectOf v c)
-effect-kept v (call-of.Of i act-of.Step) = step-same v
-effect-kept v (call-of.Of i (act-of.Write x e)) = refl
-effect-kept v (call-of.Of i act-of.Read) = read-latched v (v .party .input)
-effect-kept v (call-of.Of i (act-of.PollRegister x)) = refl
-effect-kept v (call-of.Of i (act-of.ListenOnly on)) = refl
-effect-kept v (call-of.Of i (act-of.TalkOnly on)) = refl
-effect-kept v (call-of.Of i act-of.TakeControl) = refl
-effect-kept v (call-of.Of i act-of.GoToStandby) = refl
-effect-kept v (call-of.Of i act-of.InterfaceClear) = refl
-effect-kept v (call-of.Of i act-of.Reset) = cond-elim
-    (λ (o : Outcome). Latched v (record { feoi = false }) (withStanding (v .standing) o)) (isActive (v .party))
-    (λ _. refl) (λ _. refl)
-effect-kept v (call-of.Of i act-of.Drop) = refl
-effect-kept v (call-of.Of i (act-of.SecondRequest on)) = refl
-effect-kept v (call-of.Of i (act-of.DataOut x)) = refl
-effect-kept v (call-of.Of i act-of.MarkEnd) = refl
-effect-kept v (call-of.Of i act-of.BusStatus) = refl
-effect-kept v (call-of.Of i act-of.DoNothing) = refl
-effect-kept v (call-of.Of i act-of.NoRegister) = refl
-effect-kept v call-of.Lines = refl
-effect-kept v call-of.Drivers = refl
 
 -- Control goes on from a party, and the interface is cleared by one, whose latches are as they were.
 abbrev Fair : After → Party → Party → Type 0
@@ -131,31 +100,43 @@ fair (after.Pass j) p q e = e
 fair after.Attend p q e = refl
 fair after.Clear p q e = e
 
-read-fair : (s : Slot) (p : Party) → Fair (readOut s p .after) p (readOut s p .party)
-read-fair Empty p = refl
-read-fair (Full x e) p = refl
+-- what a call's effect leaves of its own party
+abbrev Leaves : Call → Party → Outcome → Type 0
+Leaves c p o = (kept (o .party) ≡ (p .role .name, latched c (p .latches))) × Fair (o .after) p (o .party)
 
-effect-fair : (v : View) (c : Call) → Fair (effectOf v c .after) (v .party) (effectOf v c .party)
-effect-fair v (call-of.Of i act-of.Step) = fair (step v .after) (v .party) (step v .party) (step-same v)
-effect-fair v (call-of.Of i (act-of.Write x e)) = refl
-effect-fair v (call-of.Of i act-of.Read) = read-fair (v .party .input) (v .party)
-effect-fair v (call-of.Of i (act-of.PollRegister x)) = refl
-effect-fair v (call-of.Of i (act-of.ListenOnly on)) = refl
-effect-fair v (call-of.Of i (act-of.TalkOnly on)) = refl
-effect-fair v (call-of.Of i act-of.TakeControl) = refl
-effect-fair v (call-of.Of i act-of.GoToStandby) = refl
-effect-fair v (call-of.Of i act-of.InterfaceClear) = refl
-effect-fair v (call-of.Of i act-of.Reset) = cond-elim
-    (λ (o : Outcome). Fair (o .after) (v .party) (o .party)) (isActive (v .party)) (λ _. refl) (λ _. refl)
-effect-fair v (call-of.Of i act-of.Drop) = refl
-effect-fair v (call-of.Of i (act-of.SecondRequest on)) = refl
-effect-fair v (call-of.Of i (act-of.DataOut x)) = refl
-effect-fair v (call-of.Of i act-of.MarkEnd) = refl
-effect-fair v (call-of.Of i act-of.BusStatus) = refl
-effect-fair v (call-of.Of i act-of.DoNothing) = refl
-effect-fair v (call-of.Of i act-of.NoRegister) = refl
-effect-fair v call-of.Lines = refl
-effect-fair v call-of.Drivers = refl
+abbrev toldBy : Effect → Outcome
+toldBy e = record { said = e .said; after = e .after; party = e .party }
+
+read-leaves : (i : Place) (s : Slot) (p : Party) → Leaves (call-of.Of i act-of.Read) p (readOut s p)
+read-leaves i Empty p = (refl, refl)
+read-leaves i (Full x e) p = (refl, refl)
+
+effect-leaves : (v : View) (c : Call) → Leaves c (v .party) (toldBy (effectOf v c))
+effect-leaves v (call-of.Of i act-of.Step) =
+    (step-same v, fair (step v .after) (v .party) (step v .party) (step-same v))
+effect-leaves v (call-of.Of i (act-of.Write x e)) = (refl, refl)
+effect-leaves v (call-of.Of i act-of.Read) = read-leaves i (v .party .input) (v .party)
+effect-leaves v (call-of.Of i (act-of.PollRegister x)) = (refl, refl)
+effect-leaves v (call-of.Of i (act-of.ListenOnly on)) = (refl, refl)
+effect-leaves v (call-of.Of i (act-of.TalkOnly on)) = (refl, refl)
+effect-leaves v (call-of.Of i act-of.TakeControl) = (refl, refl)
+effect-leaves v (call-of.Of i act-of.GoToStandby) = (refl, refl)
+effect-leaves v (call-of.Of i act-of.InterfaceClear) = (refl, refl)
+effect-leaves v (call-of.Of i act-of.Reset) =
+    cond-elim (Leaves (call-of.Of i act-of.Reset) (v .party)) (isActive (v .party)) (λ _. (refl, refl)) (λ _. (refl, refl))
+effect-leaves v (call-of.Of i act-of.Drop) = (refl, refl)
+effect-leaves v (call-of.Of i (act-of.SecondRequest on)) = (refl, refl)
+effect-leaves v (call-of.Of i (act-of.DataOut x)) = (refl, refl)
+effect-leaves v (call-of.Of i act-of.MarkEnd) = (refl, refl)
+effect-leaves v (call-of.Of i act-of.BusStatus) = (refl, refl)
+effect-leaves v (call-of.Of i act-of.DoNothing) = (refl, refl)
+effect-leaves v (call-of.Of i act-of.NoRegister) = (refl, refl)
+effect-leaves v call-of.Lines = (refl, refl)
+effect-leaves v call-of.Drivers = (refl, refl)
+
+pub effect-kept : (v : View) (c : Call)
+    → kept (effectOf v c .party) ≡ (v .party .role .name, latched c (v .party .latches))
+effect-kept v c = effect-leaves v c .0
 
 -- What follows leaves both of every party.
 module _ (b : Bus) (i : ℕ) (e : Effect) where
@@ -187,4 +168,4 @@ module _ (b : Bus) (i : ℕ) (e : Effect) where
 pub accepted-kept : (b : Bus) (c : Call) (j : ℕ) → let v = m.viewAt (placeOf c) (lines b) b in
     kept (here (m.accepted (lines b) b c .bus) j) ≡ kept (at (set (b .parties) (placeOf c .0) (effectOf v c .party)) j)
 accepted-kept b c j = let v = m.viewAt (placeOf c) (lines b) b in let e = effectOf v c in
-    followed-same b (placeOf c .0) e (e .after) (effect-fair v c) (lines b .atn) j
+    followed-same b (placeOf c .0) e (e .after) (effect-leaves v c .1) (lines b .atn) j

@@ -3,30 +3,16 @@ use Rattle.refusals.proofs.own.Statement.{statement}
 use Rattle.refusals.proofs.own.Tie as tie
 
 returns : tie.Need-returns
-returns c =
-    simp (c .enum-told .given .1)
+returns c = simp (c .enum-told .given .1)
 
 returns-2 : tie.Need-returns-2
-returns-2 c =
-    simp (
-      c .when .ensures,
-      c .before .write-refusal .ensures,
-      c .before .before .known-told .given .1,
-      c .before .before .before .a .given .1,
-      c .before .before .before .before .match .keys2,
-    )
+returns-2 c = simp (c .when .ensures, c .before .write-refusal .ensures, c .before .before .before .a .given .1)
 
 returns-3 : tie.Need-returns-3
-returns-3 c =
-    simp (
-      c .when2 .ensures,
-      c .before .is-full .ensures,
-      c .before .before .enum-told2 .given .1,
-    )
+returns-3 c = simp (c .when2 .ensures, c .before .is-full .ensures, c .before .before .enum-told2 .given .1)
 
 returns-4 : tie.Need-returns-4
-returns-4 c =
-    simp (c .enum-told3 .given .1)
+returns-4 c = simp (c .enum-told3 .given .1)
 
 returns-5 : tie.Need-returns-5
 returns-5 c =
@@ -34,9 +20,7 @@ returns-5 c =
       c .when3 .ensures,
       c .before .listen-refusal .ensures,
       c .before .before .is-on .ensures,
-      c .before .before .before .known-told2 .given .1,
       c .before .before .before .before .a2 .given .1,
-      c .before .before .before .before .before .match .keys5,
     )
 
 returns-6 : tie.Need-returns-6
@@ -45,18 +29,11 @@ returns-6 c =
       c .when4 .ensures,
       c .before .talk-refusal .ensures,
       c .before .before .is-on2 .ensures,
-      c .before .before .before .known-told3 .given .1,
       c .before .before .before .before .a3 .given .1,
-      c .before .before .before .before .before .match .keys6,
     )
 
 returns-7 : tie.Need-returns-7
-returns-7 c =
-    simp (
-      c .when5 .ensures,
-      c .before .in-standby .ensures,
-      c .before .before .enum-told4 .given .1,
-    )
+returns-7 c = simp (c .when5 .ensures, c .before .in-standby .ensures, c .before .before .enum-told4 .given .1)
 
 returns-8 : tie.Need-returns-8
 returns-8 c =
@@ -68,55 +45,31 @@ returns-8 c =
     )
 
 returns-9 : tie.Need-returns-9
-returns-9 c =
-    simp (
-      c .when6 .ensures,
-      c .before .enum-told6 .given .1,
-    )
+returns-9 c = simp (c .when6 .ensures, c .before .enum-told6 .given .1)
 
 returns-10 : tie.Need-returns-10
-returns-10 c =
-    simp (
-      c .when7 .ensures,
-      c .before .sends-command2 .ensures,
-      c .before .before .enum-told7 .given .1,
-    )
+returns-10 c = simp (c .when7 .ensures, c .before .sends-command2 .ensures, c .before .before .enum-told7 .given .1)
 
 returns-11 : tie.Need-returns-11
-returns-11 c =
-    simp (c .enum-told8 .given .1)
+returns-11 c = simp (c .enum-told8 .given .1)
 
 returns-12 : tie.Need-returns-12
-returns-12 c =
-    simp (
-      c .when8 .ensures,
-      c .before .known-told4 .given .1,
-      c .before .before .a4 .given .1,
-      c .before .before .before .match .keys12,
-    )
+returns-12 c = simp (c .when8 .ensures, c .before .before .a4 .given .1)
 
 returns-13 : tie.Need-returns-13
-returns-13 c =
-    simp (
-      c .write-refusal2 .ensures,
-      c .before .enum-told9 .given .1,
-    )
+returns-13 c = simp (c .write-refusal2 .ensures, c .before .enum-told9 .given .1)
 
 returns-14 : tie.Need-returns-14
-returns-14 c =
-    simp (c .enum-told10 .given .1)
+returns-14 c = simp (c .enum-told10 .given .1)
 
 returns-15 : tie.Need-returns-15
-returns-15 c =
-    simp (c .enum-told11 .given .1)
+returns-15 c = simp (c .enum-told11 .given .1)
 
 returns-16 : tie.Need-returns-16
-returns-16 c =
-    simp (c .enum-told12 .given .1)
+returns-16 c = simp (c .enum-told12 .given .1)
 
 returns-17 : tie.Need-returns-17
-returns-17 c =
-    simp (c .enum-told13 .given .1)
+returns-17 c = simp (c .enum-told13 .given .1)
 
 pub own-spec : {M : Type 1} → statement M
 own-spec =

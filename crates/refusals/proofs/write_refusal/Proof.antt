@@ -3,11 +3,7 @@ use Rattle.refusals.proofs.write_refusal.Statement.{statement}
 use Rattle.refusals.proofs.write_refusal.Tie as tie
 
 returns : tie.Need-returns
-returns c =
-    simp (
-      c .when .ensures,
-      c .before .is-full .ensures,
-    )
+returns c = simp (c .when .ensures, c .before .is-full .ensures)
 
 pub write-refusal-spec : {M : Type 1} → statement M
 write-refusal-spec = tie.close (tie.spec

@@ -6,48 +6,39 @@ use Rattle.registers.proofs.auxiliary_of.Tie as tie
 
 returns : tie.Need-returns
 unfolding auxiliaryOf
-returns c =
-    simp (c .match .keys1)
+returns c = simp (c .match .keys1)
 
 returns-2 : tie.Need-returns-2
 unfolding auxiliaryOf
-returns-2 c =
-    simp (c .match .keys2)
+returns-2 c = simp (c .match .keys2)
 
 returns-3 : tie.Need-returns-3
 unfolding auxiliaryOf
-returns-3 c =
-    simp (c .match .keys3)
+returns-3 c = simp (c .match .keys3)
 
 returns-4 : tie.Need-returns-4
 unfolding auxiliaryOf
-returns-4 c =
-    simp (c .match .keys4)
+returns-4 c = simp (c .match .keys4)
 
 returns-5 : tie.Need-returns-5
 unfolding auxiliaryOf
-returns-5 c =
-    simp (c .match .keys5)
+returns-5 c = simp (c .match .keys5)
 
 returns-6 : tie.Need-returns-6
 unfolding auxiliaryOf
-returns-6 c =
-    simp (c .match .keys6)
+returns-6 c = simp (c .match .keys6)
 
 returns-7 : tie.Need-returns-7
 unfolding auxiliaryOf
-returns-7 c =
-    simp (c .match .keys7)
+returns-7 c = simp (c .match .keys7)
 
 returns-8 : tie.Need-returns-8
 unfolding auxiliaryOf
-returns-8 c =
-    simp (c .match .keys8)
+returns-8 c = simp (c .match .keys8)
 
 returns-9 : tie.Need-returns-9
 unfolding auxiliaryOf
-returns-9 c =
-    simp (c .match .keys9)
+returns-9 c = simp (c .match .keys9)
 
 returns-10 : tie.Need-returns-10
 unfolding auxiliaryOf

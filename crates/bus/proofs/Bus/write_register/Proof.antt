@@ -3,11 +3,7 @@ use Rattle.bus.proofs.Bus.write_register.Statement.{statement}
 use Rattle.bus.proofs.Bus.write_register.Tie as tie
 
 returns : tie.Need-returns
-returns c =
-    simp (
-      c .call .ensures,
-      c .before .stands-for .ensures,
-    )
+returns c = simp (c .call .ensures, c .before .stands-for .ensures)
 
 pub write-register-spec : {M : Type 1} → statement M
 write-register-spec = tie.close (tie.spec

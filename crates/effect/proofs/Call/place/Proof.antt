@@ -3,20 +3,13 @@ use Rattle.effect.proofs.Call.place.Statement.{statement}
 use Rattle.effect.proofs.Call.place.Tie as tie
 
 returns : tie.Need-returns
-returns c =
-    simp (
-      c .known-told .given .1,
-      c .before .self .given .1,
-      c .before .before .match .keys1,
-    )
+returns c = simp (c .before .self .given .1)
 
 returns-2 : tie.Need-returns-2
-returns-2 c =
-    simp (c .enum-told .given .1)
+returns-2 c = simp (c .enum-told .given .1)
 
 returns-3 : tie.Need-returns-3
-returns-3 c =
-    simp (c .enum-told2 .given .1)
+returns-3 c = simp (c .enum-told2 .given .1)
 
 pub place-spec : {M : Type 1} → statement M
 place-spec = tie.close (tie.spec
