@@ -1,14 +1,13 @@
 -- Each access is the call that it stands for.
 -- Assumes nothing.
-use Prim.Native.Nat.{ℕ, zero, suc, _≤_}
-use native.Mathlib.Omega.{arith}
+use Prim.Native.Nat.{ℕ, zero, suc}
 use mathlib.Core.Path.{_≡_, refl, sym, ap, _∙_}
 use mathlib.Core.Bool.{Bool, true, false, not, cond}
 use mathlib.Core.List.{List, [], _∷_, map}
 use mathlib.Core.Logic.{inl, inr}
 use lib.ListN.{set}
 use lib.Seq.{set-getD}
-use Rattle.role.proofs.Logic.{test}
+use Rattle.role.proofs.Logic.{no, test}
 use Rattle.party.specs.Parts.{one, idle, withHeld}
 use Rattle.party.specs.Sending.{isSource}
 use Rattle.party.specs.Settling.{settled}
@@ -101,11 +100,8 @@ module _ (b : Bus) (p : Place) where
   for-register : (a : Act) → m.call b (call-of.Of p a) .refusal ≡ ruling.NoReg → a ≡ act-of.NoRegister
   for-register a e = go (call-met b (call-of.Of p a))
     where
-      over : 11 ≤ 9 → ⊥
-      over h = omega arith
-
       go : Met (call-of.Of p a) (m.call b (call-of.Of p a) .refusal) → a ≡ act-of.NoRegister
-      go (inl h) = absurd (over (rw e at h))
+      go (inl h) = let z : false ≡ true = rw e at h in no (cc)
       go (inr h) = let q = h .1 .1 in cc
 
   module _ (inside : isInside (b .count) (p .0) ≡ true) where

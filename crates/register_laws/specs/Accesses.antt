@@ -1,7 +1,7 @@
 -- "Each access equals the host call or calls that it stands for, and a list of accesses keeps delivery and totals."
 -- (document 02, Q-6; what else is quoted is Q-6 too)
 -- Assumes nothing.
-use Prim.Native.Nat.{ℕ, _%_, _/_}
+use Prim.Native.Nat.{ℕ, _<_, _%_, _/_}
 use mathlib.Core.Path.{_≡_}
 use mathlib.Core.Bool.{Bool, true, false, cond, _&&_, _||_}
 use mathlib.Core.List.{List, map}
@@ -60,8 +60,8 @@ abbrev pub isCarried : Access → Bool
 isCarried (Read o) = eqb o 3 || eqb o 7
 isCarried (Write o v) = (eqb o 3 && isCarriedCode (v % 32)) || eqb o 5 || eqb o 7
 
--- The accesses to the registers of a party that is there. A code is what is left of a value after 32, whatever its bits
--- 32 and 64; the set bit is 128.
+-- The accesses to the registers of a party that is there. A code is the value mod 32, whatever bits 32 and 64 are; the
+-- set bit is 128.
 pub record Accesses (b : Bus) (p : Place) : Type 0 where
   -- Read 3 is the lines, read 7 the host's read, and write 5 the poll register.
   pub status : m.accessed b p (Read 3) ≡ m.call b call-of.Lines
@@ -100,6 +100,11 @@ EachAccess = (b : Bus) → LedTo b → (p : Place) → isInside (b .count) (p .0
 abbrev pub NobodyThere : Type 0
 NobodyThere = (b : Bus) (p : Place) → isInside (b .count) (p .0) ≡ false
     → (a : Access) → m.accessed b p a ≡ refuse ruling.NoParty b
+
+-- Any byte may be written to any register: none is refused for its value, on any bus. A code's switch is 0 or 1 by
+-- itself.
+abbrev pub AnyByte : Type 0
+AnyByte = (b : Bus) (p : Place) (o v : ℕ) → v < 256 → m.accessed b p (Write o v) .refusal ≡ ruling.BadValue → ⊥
 
 -- What a rack does for drivers that know the chip alone: a party's turn, or an access.
 pub data Use : Type 0 where

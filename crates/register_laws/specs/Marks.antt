@@ -33,7 +33,7 @@ endMarkAfter q (call-of.Of p a) on = cond (eqb q (p .0)) (endMarkBy a on) on
 endMarkAfter q call-of.Lines on = on
 endMarkAfter q call-of.Drivers on = on
 
--- What a list tells of the mark of party q, which was on or off before: "a refused call leaves the bus".
+-- What a list tells of the mark of party q, which was on or off before. A refused call changes nothing.
 abbrev pub endMarkTold : ℕ → List Moment → Bool → Bool
 endMarkTold q [] on = on
 endMarkTold q (x ∷ xs) on = endMarkTold q xs (cond (isAccepted (x .answer .refusal)) (endMarkAfter q (x .call) on) on)

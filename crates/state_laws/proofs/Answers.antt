@@ -6,7 +6,7 @@ use mathlib.Core.List.{List, [], _∷_}
 use mathlib.Core.Logic.{_⊎_, inl, inr}
 use Prim.Native.Nat.{ℕ, zero, suc, _≤_}
 use native.Mathlib.Omega.{arith}
-use lib.Dec.{ltb}
+use lib.Dec.{eqb, ltb}
 use lib.ListN.{set}
 use Rattle.offer.specs.Offer.{isFull, kindOf}
 use Rattle.role.proofs.Logic.{no, test, cond-elim}
@@ -19,7 +19,7 @@ use Rattle.parties.proofs.Places.{total-zero}
 use Rattle.effect.specs.Calls.{isAccepted, placeOf, isOn, refusalNumber}
 use Rattle.effect.specs.Stands.{stands, sends}
 use Rattle.effect.specs.Effects.{withStanding}
-use Rattle.refusals.specs.Refusals.{writeRefusal, inStandby, own, judge}
+use Rattle.refusals.specs.Refusals.{ofSwitch, writeRefusal, listenRefusal, talkRefusal, inStandby, own, judge}
 use Rattle.source_step.specs.SourceStep.{ready, ended, sourceIn}
 use Rattle.acceptor_step.specs.AcceptorStep.{takes, acceptorIn}
 use Rattle.host_calls.specs.HostCalls.{readOut}
@@ -169,71 +169,96 @@ one-broken b c =
 pub refused-leaves : RefusedLeaves
 refused-leaves = reached.refused-leaves
 
--- A call meets one of the refusals up to 9, or NOREG if it asks for no register that is carried.
-abbrev Within : Refusal → Type 0
-Within r = refusalNumber r ≤ 9
+-- The END or the switch of an act, and 0 for acts that have none.
+abbrev pub switchOf : Act → ℕ
+switchOf act-of.Step = 0
+switchOf (act-of.Write x e) = e
+switchOf act-of.Read = 0
+switchOf (act-of.PollRegister x) = 0
+switchOf (act-of.ListenOnly on) = on
+switchOf (act-of.TalkOnly on) = on
+switchOf act-of.TakeControl = 0
+switchOf act-of.GoToStandby = 0
+switchOf act-of.InterfaceClear = 0
+switchOf act-of.Reset = 0
+switchOf act-of.Drop = 0
+switchOf (act-of.SecondRequest on) = on
+switchOf (act-of.DataOut x) = 0
+switchOf act-of.MarkEnd = 0
+switchOf act-of.BusStatus = 0
+switchOf act-of.DoNothing = 0
+switchOf act-of.NoRegister = 0
+
+-- The refusals that a call can meet: up to 9, and of these BADVALUE for an END or a switch over 1 alone; or NOREG, if
+-- it asks for no register that is carried.
+abbrev isMet : ℕ → Refusal → Bool
+isMet s r = let n = refusalNumber r in cond (eqb n 3) (ltb 1 s) (ltb n 10)
+
+abbrev switchIn : Call → ℕ
+switchIn (call-of.Of p a) = switchOf a
+switchIn call-of.Lines = 0
+switchIn call-of.Drivers = 0
 
 abbrev pub Met : Call → Refusal → Type 0
-Met c r = Within r ⊎ ((r ≡ ruling.NoReg) × ((p : Place) × (c ≡ call-of.Of p act-of.NoRegister)))
+Met c r = (isMet (switchIn c) r ≡ true)
+    ⊎ ((r ≡ ruling.NoReg) × ((p : Place) × (c ≡ call-of.Of p act-of.NoRegister)))
 
 -- one refusal or acceptance
-either : (x : Bool) (r s : Refusal) → Within r → Within s → Within (cond x r s)
-either true r s f g = f
-either false r s f g = g
+either : (s : ℕ) (x : Bool) (r t : Refusal) → isMet s r ≡ true → isMet s t ≡ true → isMet s (cond x r t) ≡ true
+either s true r t f g = f
+either s false r t f g = g
 
-write-within : (v : View) → Within (writeRefusal v)
-write-within v = either (isFull (v .party .held)) _ _ (omega arith) (omega arith)
+switched : (s : ℕ) (r : Refusal) → isMet s r ≡ true → isMet s (ofSwitch s r) ≡ true
+switched s r f = cond-elim (λ (x : Refusal). isMet s x ≡ true) (ltb 1 s) (λ h. h) (λ _. f)
+
+write-met : (s : ℕ) (v : View) → isMet s (writeRefusal v) ≡ true
+write-met s v = either s (isFull (v .party .held)) _ _ refl refl
 
 own-met : (v : View) (i : Place) (a : Act) → Met (call-of.Of i a) (own v a)
-own-met v i act-of.Step = inl (omega arith)
-own-met v i (act-of.Write x e) = inl (either (ltb 1 e) _ _ (omega arith) (write-within v))
-own-met v i act-of.Read = inl (either (isFull (v .party .input)) _ _ (omega arith) (omega arith))
-own-met v i (act-of.PollRegister x) = inl (omega arith)
-own-met v i (act-of.ListenOnly on) = inl (either (ltb 1 on) _ _ (omega arith)
-    (either (isOn on) _ _ (either (v .party .role .talk) _ _ (omega arith) (omega arith)) (omega arith)))
-own-met v i (act-of.TalkOnly on) = inl (either (ltb 1 on) _ _ (omega arith)
-    (either (isOn on) _ _ (either (v .party .role .listen) _ _ (omega arith)
-    (either (v .lines .atn) _ _ (omega arith) (either (isFound (v .talker)) _ _ (omega arith) (omega arith))))
-    (omega arith)))
-own-met v i act-of.TakeControl = inl (either (inStandby (v .party .control)) _ _ (omega arith) (omega arith))
-own-met v i act-of.GoToStandby = inl (either (isActive (v .party)) _ _
-    (either (sends v) _ _ (omega arith) (omega arith)) (omega arith))
-own-met v i act-of.InterfaceClear = inl (either (v .chief) _ _ (omega arith) (omega arith))
-own-met v i act-of.Reset = inl (either (sends v) _ _ (omega arith) (omega arith))
-own-met v i act-of.Drop = inl (omega arith)
-own-met v i (act-of.SecondRequest on) = inl (either (ltb 1 on) _ _ (omega arith) (omega arith))
-own-met v i (act-of.DataOut x) = inl (write-within v)
-own-met v i act-of.MarkEnd = inl (omega arith)
-own-met v i act-of.BusStatus = inl (omega arith)
-own-met v i act-of.DoNothing = inl (omega arith)
+own-met v i act-of.Step = inl refl
+own-met v i (act-of.Write x e) = inl (switched e (writeRefusal v) (write-met e v))
+own-met v i act-of.Read = inl (either 0 (isFull (v .party .input)) _ _ refl refl)
+own-met v i (act-of.PollRegister x) = inl refl
+own-met v i (act-of.ListenOnly on) = inl (switched on (listenRefusal (isOn on) (v .party .role .talk))
+    (either on (isOn on) _ _ (either on (v .party .role .talk) _ _ refl refl) refl))
+own-met v i (act-of.TalkOnly on) = inl (switched on (talkRefusal (isOn on) v)
+    (either on (isOn on) _ _ (either on (v .party .role .listen) _ _ refl
+    (either on (v .lines .atn) _ _ refl (either on (isFound (v .talker)) _ _ refl refl))) refl))
+own-met v i act-of.TakeControl = inl (either 0 (inStandby (v .party .control)) _ _ refl refl)
+own-met v i act-of.GoToStandby = inl (either 0 (isActive (v .party)) _ _ (either 0 (sends v) _ _ refl refl) refl)
+own-met v i act-of.InterfaceClear = inl (either 0 (v .chief) _ _ refl refl)
+own-met v i act-of.Reset = inl (either 0 (sends v) _ _ refl refl)
+own-met v i act-of.Drop = inl refl
+own-met v i (act-of.SecondRequest on) = inl (switched on ruling.Accepted refl)
+own-met v i (act-of.DataOut x) = inl (write-met 0 v)
+own-met v i act-of.MarkEnd = inl refl
+own-met v i act-of.BusStatus = inl refl
+own-met v i act-of.DoNothing = inl refl
 own-met v i act-of.NoRegister = inr (refl, (i, refl))
 
 judge-met : (v : View) (c : Call) → Met c (judge v c)
-judge-met v (call-of.Of i a) = cond-elim (Met (call-of.Of i a)) (v .inside) (λ _. own-met v i a)
-    (λ _. inl (omega arith))
-judge-met v call-of.Lines = inl (omega arith)
-judge-met v call-of.Drivers = inl (omega arith)
+judge-met v (call-of.Of i a) = cond-elim (Met (call-of.Of i a)) (v .inside) (λ _. own-met v i a) (λ _. inl refl)
+judge-met v call-of.Lines = inl refl
+judge-met v call-of.Drivers = inl refl
 
-followed-within : (x : After) (t : Bool) (b : Bus) (i : ℕ) (e : Effect) → Within (followed x t b i e .refusal)
-followed-within after.Settle t b i e = omega arith
-followed-within (after.Pass j) t b i e = omega arith
-followed-within after.Attend t b i e = omega arith
-followed-within after.Clear t b i e = omega arith
+followed-met : (s : ℕ) (x : After) (t : Bool) (b : Bus) (i : ℕ) (e : Effect)
+    → isMet s (followed x t b i e .refusal) ≡ true
+followed-met s after.Settle t b i e = refl
+followed-met s (after.Pass j) t b i e = refl
+followed-met s after.Attend t b i e = refl
+followed-met s after.Clear t b i e = refl
 
 pub call-met : (b : Bus) (c : Call) → Met c (m.call b c .refusal)
 call-met b c =
     let l = lines b in
     let v = m.viewAt (placeOf c) l b in
     cond-elim (λ (a : Answer). Met c (a .refusal)) (isAccepted (m.refusal l b c))
-    (λ _. inl (followed-within (effectOf v c .after) (l .atn) b (placeOf c .0) (effectOf v c)))
+    (λ _. inl (followed-met (switchIn c) (effectOf v c .after) (l .atn) b (placeOf c .0) (effectOf v c)))
     (λ _. judge-met v c)
 
 pub never-record : NeverRecord
 never-record b c e = go (call-met b c)
   where
-    over : 10 ≤ 9 → ⊥
-    over h = omega arith
-
     go : Met c (m.call b c .refusal) → ⊥
-    go (inl h) = over (rw e at h)
+    go (inl h) = let z : false ≡ true = rw e at h in no (cc)
     go (inr h) = let z = h .0 in no (cc)

@@ -35,17 +35,18 @@ use Rattle.bus.specs.Types.after
 use Rattle.bus.specs.Types.call-of
 use Rattle.bus.specs.Types.act-of
 
-abbrev pub kept : Party → Name × Latches
-kept p = (p .role .name, p .latches)
+-- what no step changes, and nothing that follows on a call
+abbrev steady : Party → Name × Latches
+steady p = (p .role .name, p .latches)
 
 hear-kept : (x : ℕ) (p : Party) → _≡_ {A = Name × Latches}
-    (roleHeard (meaningOf x) (p .role) .name, p .latches) (kept p)
+    (roleHeard (meaningOf x) (p .role) .name, p .latches) (steady p)
 hear-kept x p = ap (λ (n : Name). (n, p .latches)) (hear-name (meaningOf x) (p .role))
 
 -- A step leaves both of its party.
 module _ (v : View) where
   abbrev Same : Effect → Type 0
-  Same e = kept (e .party) ≡ kept (v .party)
+  Same e = steady (e .party) ≡ steady (v .party)
 
   ready-same : (o : Slot) (k : Kind) → Same (ready o k v)
   ready-same Empty k = refl
@@ -54,7 +55,7 @@ module _ (v : View) where
 
   ended-same : (st : Standing) → Same (ended st v)
   ended-same Nothing = refl
-  ended-same (Byte s k x e) = cond-elim (λ (q : Party). kept q ≡ kept (v .party)) (ofCommand k)
+  ended-same (Byte s k x e) = cond-elim (λ (q : Party). steady q ≡ steady (v .party)) (ofCommand k)
       (λ _. hear-kept x (v .party)) (λ _. refl)
 
   source-same : (s : Source) (o : Slot) (k : Kind) → Same (sourceIn s o k v)
@@ -90,11 +91,11 @@ latched call-of.Drivers l = l
 -- Control goes on from a party, and the interface is cleared by one, whose latches are as they were.
 abbrev Fair : After → Party → Party → Type 0
 Fair after.Settle p q = q ≡ q
-Fair (after.Pass j) p q = kept q ≡ kept p
+Fair (after.Pass j) p q = steady q ≡ steady p
 Fair after.Attend p q = q ≡ q
-Fair after.Clear p q = kept q ≡ kept p
+Fair after.Clear p q = steady q ≡ steady p
 
-fair : (x : After) (p q : Party) → kept q ≡ kept p → Fair x p q
+fair : (x : After) (p q : Party) → steady q ≡ steady p → Fair x p q
 fair after.Settle p q e = refl
 fair (after.Pass j) p q e = e
 fair after.Attend p q e = refl
@@ -102,7 +103,7 @@ fair after.Clear p q e = e
 
 -- what a call's effect leaves of its own party
 abbrev Leaves : Call → Party → Outcome → Type 0
-Leaves c p o = (kept (o .party) ≡ (p .role .name, latched c (p .latches))) × Fair (o .after) p (o .party)
+Leaves c p o = (steady (o .party) ≡ (p .role .name, latched c (p .latches))) × Fair (o .after) p (o .party)
 
 abbrev toldBy : Effect → Outcome
 toldBy e = record { said = e .said; after = e .after; party = e .party }
@@ -135,37 +136,39 @@ effect-leaves v call-of.Lines = (refl, refl)
 effect-leaves v call-of.Drivers = (refl, refl)
 
 pub effect-kept : (v : View) (c : Call)
-    → kept (effectOf v c .party) ≡ (v .party .role .name, latched c (v .party .latches))
+    → steady (effectOf v c .party) ≡ (v .party .role .name, latched c (v .party .latches))
 effect-kept v c = effect-leaves v c .0
 
 -- What follows leaves both of every party.
 module _ (b : Bus) (i : ℕ) (e : Effect) where
-  settled-same : (t : Bool) (ps : List Party) (j : ℕ) → kept (at (each (b .count) (settled t) ps) j) ≡ kept (at ps j)
-  settled-same t ps = each-part kept (b .count) (settled t) ps (λ p. refl)
+  settled-same : (t : Bool) (ps : List Party) (j : ℕ)
+      → steady (at (each (b .count) (settled t) ps) j) ≡ steady (at ps j)
+  settled-same t ps = each-part steady (b .count) (settled t) ps (λ p. refl)
 
-  attended-same : (ps : List Party) (j : ℕ) → let t = some (b .count) isActive ps in kept (at
-      (each (b .count) (settled t) (each (b .count) (attended t) ps)) j) ≡ kept (at ps j)
+  attended-same : (ps : List Party) (j : ℕ) → let t = some (b .count) isActive ps in steady (at
+      (each (b .count) (settled t) (each (b .count) (attended t) ps)) j) ≡ steady (at ps j)
   attended-same ps j = let t = some (b .count) isActive ps in
-      settled-same t (each (b .count) (attended t) ps) j ∙ each-part kept (b .count) (attended t) ps (λ p. refl) j
+      settled-same t (each (b .count) (attended t) ps) j ∙ each-part steady (b .count) (attended t) ps (λ p. refl) j
 
   followed-same : (x : After) → Fair x (here b i) (e .party) → (t : Bool) (j : ℕ)
-      → kept (here (followed x t b i e .bus) j) ≡ kept (at (set (b .parties) i (e .party)) j)
+      → steady (here (followed x t b i e .bus) j) ≡ steady (at (set (b .parties) i (e .party)) j)
   followed-same after.Settle f t j = settled-same t (set (b .parties) i (e .party)) j
   followed-same (after.Pass k) f t j =
       let left = set (b .parties) i (changeControl Idle (e .party)) in
-      let same = set-part kept (b .parties) i (changeControl Idle (e .party)) f in
+      let same = set-part steady (b .parties) i (changeControl Idle (e .party)) f in
       attended-same (set left (k .0) (changeControl Active (here b (k .0)))) j
-      ∙ set-part kept left (k .0) (changeControl Active (here b (k .0))) (sym (same (k .0))) j ∙ same j
-      ∙ sym (set-part kept (b .parties) i (e .party) f j)
+      ∙ set-part steady left (k .0) (changeControl Active (here b (k .0))) (sym (same (k .0))) j ∙ same j
+      ∙ sym (set-part steady (b .parties) i (e .party) f j)
   followed-same after.Attend f t j = attended-same (set (b .parties) i (e .party)) j
   followed-same after.Clear f t j =
       let all = each (b .count) cleared (b .parties) in
-      let same = each-part kept (b .count) cleared (b .parties) (λ p. refl) in
-      attended-same (set all i (e .party)) j ∙ set-part kept all i (e .party) (f ∙ sym (same i)) j ∙ same j
-      ∙ sym (set-part kept (b .parties) i (e .party) f j)
+      let same = each-part steady (b .count) cleared (b .parties) (λ p. refl) in
+      attended-same (set all i (e .party)) j ∙ set-part steady all i (e .party) (f ∙ sym (same i)) j ∙ same j
+      ∙ sym (set-part steady (b .parties) i (e .party) f j)
 
 -- An accepted call leaves every name, and of the latches those that are not its own party's.
 pub accepted-kept : (b : Bus) (c : Call) (j : ℕ) → let v = m.viewAt (placeOf c) (lines b) b in
-    kept (here (m.accepted (lines b) b c .bus) j) ≡ kept (at (set (b .parties) (placeOf c .0) (effectOf v c .party)) j)
+    steady (here (m.accepted (lines b) b c .bus) j)
+    ≡ steady (at (set (b .parties) (placeOf c .0) (effectOf v c .party)) j)
 accepted-kept b c j = let v = m.viewAt (placeOf c) (lines b) b in let e = effectOf v c in
     followed-same b (placeOf c .0) e (e .after) (effect-leaves v c .1) (lines b .atn) j
