@@ -9,11 +9,10 @@ use native.Mathlib.Omega.{arith}
 use native.Mathlib.Nat.{not-suc-le-zero, le-of-suc-le-suc}
 use lib.ListN.{length, getD, length-map, length-append}
 use lib.Dec.{ltb}
-use borrow.Author.Tests.{ne-eqb, ltb-true, ltb-false}
+use borrow.Author.Tests.{ltb-true, ltb-false}
 use Rattle.party.specs.Driving.{isActive}
 use Rattle.party.specs.Sending.{isSource}
-use Rattle.role.proofs.Logic.{no, test, cond-elim}
-use Rattle.parties.specs.Places.{within}
+use Rattle.role.proofs.Logic.{no, test}
 use Rattle.bus.specs.declared.Bus.{Bus}
 use Rattle.bus.specs.Record.{here, accept}
 use Rattle.bus.specs.Machine as m
@@ -23,14 +22,17 @@ use Rattle.bus.proofs.Putting.{nothing-stands}
 use Rattle.bus.specs.Types.{Party, Event}
 use Rattle.bus.specs.Types.ev
 use Rattle.bus.specs.Types.call-of
-use Rattle.runner.specs.Waiting.{TieOrder, byPlace, Orders, inOrder}
+use Rattle.runner.specs.Waiting.{TieOrder, Orders, inOrder}
 use Rattle.runner.specs.Runner.{stepOf, steps, turnsOf}
-use Rattle.bound_laws.specs.Bound.{Offered, EndsWithin, EndsSoon, Bound, BoundByPlace}
+use Rattle.runner.specs.Ties.{byAddress}
+use Rattle.bound_laws.specs.Bound.{Offered, EndsWithin, EndsSoon, Bound, BoundByAddress}
 use Rattle.runner.proofs.Led.{led-inv}
 use Rattle.runner.proofs.Members.{member}
 use Rattle.runner.proofs.Queue.{rota}
 use Rattle.runner.proofs.Rota.{rota-round}
-use Rattle.runner.proofs.InOrder.{order-length, order-member, turns-order, place-orders}
+use Rattle.runner.proofs.InOrder.{order-length, order-member, turns-order}
+use Rattle.runner.proofs.ByAddress.{address-orders}
+use Rattle.turn_laws.proofs.AsBefore.{turns-of}
 use Rattle.bound_laws.proofs.Talker.{Waits}
 use Rattle.bound_laws.proofs.Rounds.{rounds, Finishes, Delivers, seven}
 
@@ -217,9 +219,8 @@ bound-from b I tie O p w v e F t l = subst (λ (xs : List ℕ). EndsWithin b (st
     q : List ℕ
     q = inOrder tie n
 
-    fits : within n ≡ n
-    fits = cond-elim (λ (x : ℕ). x ≡ n) (ltb n 15) (λ _. refl)
-        (λ h. let z = ltb-false n 15 h in let y = I .small in omega arith)
+    some : 0 < n
+    some = let z = F .there in omega arith
 
     size : length (rounds 7 q) ≡ 7 * n
     size = rounds-length 7 q ∙ (let z = order-length tie n in omega arith)
@@ -228,12 +229,11 @@ bound-from b I tie O p w v e F t l = subst (λ (xs : List ℕ). EndsWithin b (st
     whole = let z = order-length tie n in omega arith
 
     split : turnsOf tie b t ≡ (rounds 7 q ++ rota (t - 7 * n) q)
-    split = rw (ne-eqb n 0 (λ h. let z = F .there in omega arith), fits)
-        (turns-order tie n O (let z = F .there in omega arith) t) ∙ ap (λ (x : ℕ). rota x q) whole
+    split = turns-of tie b some (I .small) t ∙ turns-order tie n O some t ∙ ap (λ (x : ℕ). rota x q) whole
         ∙ rota-rounds 7 q (t - 7 * n)
 
 pub bound : Bound
 bound b led = bound-from b (led-inv b led)
 
-pub bound-by-place : BoundByPlace
-bound-by-place b led = bound b led byPlace (place-orders (b .count))
+pub bound-by-address : BoundByAddress
+bound-by-address b led = bound b led (byAddress b) (address-orders b (b .count))

@@ -34,8 +34,9 @@ use Rattle.bus.specs.Types.{Party, Source, Sids, Sgns, Sdys, Strs, Aids, Anrs, 
 use Rattle.bus.specs.Types.{Nothing, Byte, Said, Call}
 use Rattle.bus.specs.Types.ev
 use Rattle.runner.specs.Runner.{stepOf}
+use Rattle.runner.proofs.Lists.{call-count}
 use Rattle.turn_laws.proofs.Local.{local, touch-local, set-here, local-other, local-same, local-atn, source-step}
-use Rattle.turn_laws.proofs.Local.{Accepts, acts, atn-kept, standing-kept, count-kept, other-kept, own-next, event-of}
+use Rattle.turn_laws.proofs.Local.{Accepts, acts, atn-kept, standing-kept, other-kept, own-next, event-of}
 use Rattle.turn_laws.proofs.Local.{broken-of, inv-kept}
 use Rattle.bound_laws.proofs.Ranks.{rank, left, tick, tick-rank, tick-part, tick-acceptor, tick-input, tock-left}
 use Rattle.bound_laws.proofs.Ranks.{tock-event, no-rank-no-nrfd, none-left-no-ndac, ready-holds-ndac, dav-off}
@@ -110,7 +111,7 @@ module _ (n p w v : ℕ) (e : Bool) where
     base-other : (i : ℕ) → i < n → (i ≡ p → ⊥) → Base (m.call b (stepOf i) .bus)
     base-other i l ne = record {
       inv = inv-kept b (B .inv) i A;
-      count = count-kept b (B .inv) i A ∙ B .count;
+      count = call-count b (stepOf i) ∙ B .count;
       there = B .there;
       quiet = atn-kept b (B .inv) i A ∙ B .quiet;
       talks = ap (λ (x : Party). x .role .talk) talker ∙ B .talks;

@@ -13,9 +13,10 @@ use Rattle.bus.specs.Record.{here, lines}
 use Rattle.bus.specs.Delivery.{moment, answerAt, PutAt, EndsAt, StandsAt}
 use Rattle.bus.specs.Types.{Sgns, Empty, Full, Call}
 use Rattle.bus.specs.Types.ev
-use Rattle.runner.specs.Waiting.{TieOrder, byPlace, Orders}
+use Rattle.runner.specs.Waiting.{TieOrder, Orders}
 use Rattle.runner.specs.Runner.{stepOf, steps, turnsOf}
 use Rattle.runner.specs.Lists.{LedTo}
+use Rattle.runner.specs.Ties.{byAddress}
 
 -- Party p talks, with the byte v, END e, held, and party w listens. That nobody else talks need not be asked: on these
 -- buses nobody does.
@@ -55,6 +56,6 @@ EndsSoon tie b = (p w v : ℕ) (e : Bool) → Offered b p w v e → (t : ℕ) �
 abbrev pub Bound : Type 0
 Bound = (b : Bus) → LedTo b → (tie : TieOrder) → Orders tie (b .count) → EndsSoon tie b
 
--- "ties to the lowest party number"
-abbrev pub BoundByPlace : Type 0
-BoundByPlace = (b : Bus) → LedTo b → EndsSoon byPlace b
+-- By address: "The bound of 7 times n turns must come out the same" (document 02, Q-7).
+abbrev pub BoundByAddress : Type 0
+BoundByAddress = (b : Bus) → LedTo b → EndsSoon (byAddress b) b

@@ -10,7 +10,7 @@ use Rattle.bus.specs.Delivery.{isEnd, tally, history}
 use Rattle.bus.specs.Types.call-of
 use Rattle.bus.specs.Types.act-of
 use Rattle.bus.specs.Rows.{write, listenOnly, talkOnly, read}
-use Rattle.runner.specs.Waiting.{byPlace}
+use Rattle.runner.specs.Ties.{byAddress}
 use Rattle.runner.specs.Runner.{steps, turnsOf}
 use Rattle.runner.specs.Lists.{Item, call, run}
 use Rattle.runner.specs.Examples.{after}
@@ -24,7 +24,8 @@ slow =
 
 -- How many bytes end in the first t turns of a run.
 abbrev ended : List Item → ℕ → ℕ
-ended xs t = tally (λ x. one (isEnd (x .answer .event))) (history (after xs) (steps (turnsOf byPlace (after xs) t)))
+ended xs t = tally (λ x. one (isEnd (x .answer .event)))
+    (history (after xs) (steps (turnsOf (byAddress (after xs)) (after xs) t)))
 
 -- The bound's premises hold, n is 2, and the eleventh turn ends the byte.
 pub record Examples : Type 0 where

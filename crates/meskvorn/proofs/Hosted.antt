@@ -18,11 +18,12 @@ use Rattle.bus.proofs.Reached.{refused-leaves}
 use Rattle.effect.specs.declared.Refusal.{Refusal}
 use Rattle.effect.specs.Calls.{isAccepted, refusalNumber}
 use Rattle.runner.specs.declared.Given.{Given}
+use Rattle.runner.specs.Ties.{byAddress}
 use Rattle.image.specs.Image.{rowsOf, busOf}
 use Rattle.image.proofs.Kept.{read-back}
 use Rattle.meskvorn.specs.Packing.{packed}
-use Rattle.meskvorn.specs.Host.{rowsAfter, Replied, Built, Gave, maskList, countList, Counted}
-use Rattle.meskvorn.specs.Hosted.{Op, by-number, by-register, answerOf, turnsGiven, Asked, call, run, Reply}
+use Rattle.meskvorn.specs.Host.{turnsGiven, rowsAfter, Replied, Built, Gave, maskList, countList, Counted}
+use Rattle.meskvorn.specs.Hosted.{Op, by-number, by-register, answerOf, Asked, call, run, Reply}
 use Rattle.meskvorn.specs.Hosted.{answer, turns, drivers-of-lines, driven, Handed, none, called, ran, asked, Same}
 use Rattle.meskvorn.specs.Hosted.{Hosted, HostedFromBuild}
 use Rattle.meskvorn.proofs.Sizes.{call-size, answer-size, turns-size, drivers-size, build-size}
@@ -102,9 +103,9 @@ go (called {rows = rows} {o = o} l h) b z e =
     record { said = cc (l .said ∙ ap (λ (x : Bus). packed (answerOf x o)) read, r .said); rows = r .rows }
 go (ran {rows = rows} {t = t} l h) b z e =
     let read : busOf _ ≡ b = ap busOf e ∙ read-back b z in
-    let r = go h (turnsGiven b t .bus) (turns-size b t z)
+    let r = go h (turnsGiven b t .bus) (turns-size (byAddress b) b t z)
     (l .rows ∙ ap (λ (x : Bus). rowsAfter (turnsGiven x t .refusal) (turnsGiven x t .bus) rows) read
-    ∙ rows-next (turnsGiven b t .refusal) (turnsGiven b t .bus) b rows e (turns-leave b t)) in
+    ∙ rows-next (turnsGiven b t .refusal) (turnsGiven b t .bus) b rows e (turns-leave b (byAddress b) t)) in
     record {
       said = cc (
         l .said ∙ ap (λ (x : Bus). refusalNumber (turnsGiven x t .refusal)) read,

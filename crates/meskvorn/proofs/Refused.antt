@@ -9,7 +9,7 @@ use Rattle.effect.specs.Calls.{isAccepted}
 use Rattle.bus.specs.declared.Bus.{Bus}
 use Rattle.bus.specs.declared.Answer.{Answer}
 use Rattle.bus.proofs.Reached.{refused-leaves}
-use Rattle.runner.specs.Waiting.{byPlace}
+use Rattle.runner.specs.Waiting.{TieOrder}
 use Rattle.runner.specs.Runner.{giveTurns}
 use Rattle.orders.specs.declared.Order.{Order}
 use Rattle.orders.specs.declared.Order.the-variants as order
@@ -50,8 +50,9 @@ module _ (b : Bus) where
   answer-leaves op party value extra = cond-elim Leaves (eqb op 0) (λ _ _. refl)
       (λ h. order-leaves (orderOf op party value extra) (not-build op party value extra h))
 
-  pub turns-leave : (t : ℕ) → isAccepted (giveTurns byPlace b t .refusal) ≡ false → giveTurns byPlace b t .bus ≡ b
-  turns-leave t = test (eqb (b .count) 0) (λ e _. rw e refl) (λ e h. no (refused e h))
+  pub turns-leave : (tie : TieOrder) (t : ℕ) → isAccepted (giveTurns tie b t .refusal) ≡ false
+      → giveTurns tie b t .bus ≡ b
+  turns-leave tie t = test (eqb (b .count) 0) (λ e _. rw e refl) (λ e h. no (refused e h))
     where
-      refused : eqb (b .count) 0 ≡ false → isAccepted (giveTurns byPlace b t .refusal) ≡ false → _≡_ {A = ℕ} 0 1
-      refused e h = let z : isAccepted (giveTurns byPlace b t .refusal) ≡ true = rw e refl in cc
+      refused : eqb (b .count) 0 ≡ false → isAccepted (giveTurns tie b t .refusal) ≡ false → _≡_ {A = ℕ} 0 1
+      refused e h = let z : isAccepted (giveTurns tie b t .refusal) ≡ true = rw e refl in cc

@@ -25,7 +25,7 @@ use Rattle.addresses.specs.Addresses.{names, placed, badBuild}
 use Rattle.bus.specs.Settling.{followed}
 use Rattle.bus.specs.Drivers.{drivers}
 use Rattle.bus.specs.Machine.{viewAt, call, refusal, accepted, run}
-use Rattle.runner.specs.Waiting.{byPlace}
+use Rattle.runner.specs.Waiting.{TieOrder}
 use Rattle.runner.specs.Runner.{steps, turnsOf, giveTurns}
 use Rattle.orders.specs.Orders.{orderOf, obey, buildFrom, countUp}
 use Rattle.orders.specs.declared.Order.{Order}
@@ -71,8 +71,8 @@ run-size : (b : Bus) (cs : List Call) → Full b → Full (run b cs)
 run-size b [] h = h
 run-size b (c ∷ cs) h = run-size (call b c .bus) cs (call-size b c h)
 
-pub turns-size : (b : Bus) (t : ℕ) → Full b → Full (giveTurns byPlace b t .bus)
-turns-size b t h = run-size b (steps (turnsOf byPlace b t)) h
+pub turns-size : (tie : TieOrder) (b : Bus) (t : ℕ) → Full b → Full (giveTurns tie b t .bus)
+turns-size tie b t h = run-size b (steps (turnsOf tie b t)) h
 
 obey-size : (b : Bus) (o : Order) → Full b → Full (obey b o .bus)
 unfolding obey buildFrom

@@ -18,6 +18,8 @@ use Rattle.refusals.specs.Refusals.{isInside}
 use Rattle.orders.specs.Orders.{orderOf, obey}
 use Rattle.effect.specs.Calls.{isAccepted, refusalNumber}
 use Rattle.runner.specs.declared.Given.{Given}
+use Rattle.runner.specs.Ties.{byAddress}
+use Rattle.runner.specs.Runner.{giveTurns}
 use Rattle.run.specs.declared.Ran.{Ran}
 use Rattle.run.specs.declared.Ran.the-variants.{Wrote, NoRoom}
 use Rattle.run.specs.Run.{RanAs}
@@ -52,6 +54,10 @@ pub record Replied (a : Answer) (before after : List (List ℕ)) (n : ℕ) : Typ
 pub record Built (a : Answer) (after : List (List ℕ)) (n : ℕ) : Type 0 where
   pub said : n ≡ packed a
   pub rows : after ≡ rowsOf (a .bus)
+
+-- A run of so many turns, ties by address.
+abbrev pub turnsGiven : Bus → ℕ → Given
+turnsGiven b t = giveTurns (byAddress b) b t
 
 -- A host was given these turns: the number is the refusal's, and the counts are those of the places.
 pub record Gave (g : Given) (before after : List (List ℕ)) (counts : List ℕ) (n : ℕ) : Type 0 where

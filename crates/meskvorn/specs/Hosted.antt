@@ -16,12 +16,9 @@ use Rattle.bus.specs.Drivers.{drivers}
 use Rattle.bus.specs.Machine.{accessed}
 use Rattle.parties.specs.Places.{place}
 use Rattle.effect.specs.Calls.{refusalNumber}
-use Rattle.runner.specs.declared.Given.{Given}
-use Rattle.runner.specs.Waiting.{byPlace}
-use Rattle.runner.specs.Runner.{giveTurns}
 use Rattle.image.specs.Image.{rowsOf, busOf}
 use Rattle.meskvorn.specs.Packing.{packed}
-use Rattle.meskvorn.specs.Host.{answerByNumber, Replied, Built, Gave, maskList, countList, Counted}
+use Rattle.meskvorn.specs.Host.{answerByNumber, turnsGiven, Replied, Built, Gave, maskList, countList, Counted}
 
 -- An operation by the four numbers that meskvorn_call takes (operation, party, value, extra), or an access to a
 -- register of a party.
@@ -45,9 +42,6 @@ pub data Reply : Type 0 where
   answer : ℕ → Reply
   turns : ℕ → List ℕ → Reply
   driven : ℕ → List ℕ → List ℕ → Reply
-
-abbrev pub turnsGiven : Bus → ℕ → Given
-turnsGiven b t = giveTurns byPlace b t
 
 -- The machine's bus after them, and what it has to say.
 abbrev pub afterAsked : Bus → List Asked → Bus

@@ -40,6 +40,7 @@ use Rattle.bus.specs.Types.ruling
 use Rattle.bus.specs.Types.after
 use Rattle.bus.specs.Types.call-of
 use Rattle.bus.specs.Types.act-of
+use Rattle.runner.proofs.Lists.{count-kept}
 use Rattle.request_laws.specs.Requests.{polledOn}
 use Rattle.request_laws.proofs.Asked.{isStat, asked, Fair, Reports, Turn, silent, reports, step-turn, Leaves}
 use Rattle.request_laws.proofs.Asked.{leaves}
@@ -238,12 +239,6 @@ accepted-says after.Settle t b i e = refl
 accepted-says (after.Pass j) t b i e = refl
 accepted-says after.Attend t b i e = refl
 accepted-says after.Clear t b i e = refl
-
-count-kept : (x : After) (t : Bool) (b : Bus) (i : ℕ) (e : Effect) → followed x t b i e .bus .count ≡ b .count
-count-kept after.Settle t b i e = refl
-count-kept (after.Pass j) t b i e = refl
-count-kept after.Attend t b i e = refl
-count-kept after.Clear t b i e = refl
 
 module _ (b : Bus) (I : Inv b) (c : Call) (ok : isAccepted (m.refusal (lines b) b c) ≡ true) where
   abbrev i : ℕ

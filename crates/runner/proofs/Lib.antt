@@ -16,7 +16,9 @@ pub mod Members
 pub mod Longest
 pub mod Queue
 pub mod Rota
+pub mod Sorting
 pub mod InOrder
+pub mod ByAddress
 pub mod Lists
 pub mod Led
 pub mod Counts

@@ -12,6 +12,7 @@ use lib.Dec.{ltb, eqb}
 use borrow.Author.Tests.{eqb-true, eqb-false, eq-eqb, ltb-true, ltb-false, lt-ltb}
 use Rattle.role.proofs.Logic.{no, test, cond-elim, both, or-right}
 use Rattle.runner.specs.Waiting.{TieOrder, waitOf, goesBefore, longestOf, longestWaiting, Orders, LongestFound}
+use Rattle.runner.specs.Ties.{lowestBy}
 
 -- what the test says, of the two waits and the tie
 says : (a b : ℕ) (t : Bool) → (ltb b a || (eqb a b && t)) ≡ true → (b < a) ⊎ ((a ≡ b) × (t ≡ true))
@@ -22,17 +23,14 @@ said : (a b : ℕ) (t : Bool) → (b < a) ⊎ ((a ≡ b) × (t ≡ true)) → (l
 said a b t (inl h) = rw (lt-ltb b a h) refl
 said a b t (inr h) = or-right (ltb b a) (rw (eq-eqb a b (h .0)) (h .1))
 
-more : (a b : ℕ) → (b < a → ⊥) → (a ≡ b → ⊥) → a < b
+pub more : (a b : ℕ) → (b < a → ⊥) → (a ≡ b → ⊥) → a < b
 more a b h k = test (ltb a b) (ltb-true a b) (λ e. let z = ltb-false a b e in absurd
     (test (ltb b a) (λ f. h (ltb-true b a f)) (λ f. let y = ltb-false b a f in k (omega arith))))
 
--- By waits and then by the tie order is an order too.
-module _ (tie : TieOrder) (ws : List ℕ) (n : ℕ) (O : Orders tie n) where
-  abbrev W : ℕ → ℕ
-  W x = waitOf ws x
-
-  abbrev G : ℕ → ℕ → Bool
-  G x y = goesBefore tie ws x y
+-- By numbers, the highest first, and then by the tie order is an order too.
+module _ (tie : TieOrder) (W : ℕ → ℕ) (n : ℕ) (O : Orders tie n) where
+  abbrev G : TieOrder
+  G x y = ltb (W y) (W x) || (eqb (W x) (W y) && tie x y)
 
   not-both : (x y : ℕ) → x < n → y < n → (W y < W x) ⊎ ((W x ≡ W y) × (tie x y ≡ true))
       → (W x < W y) ⊎ ((W y ≡ W x) × (tie y x ≡ true)) → ⊥
@@ -56,14 +54,30 @@ module _ (tie : TieOrder) (ws : List ℕ) (n : ℕ) (O : Orders tie n) where
       (λ e. inl (more (W x) (W y) (λ l. let z = said (W x) (W y) (tie x y) (inl l) in no
       (let y : _≡_ {A = ℕ} 0 1 = cc in y)) (eqb-false (W x) (W y) e)))
 
-  pub goes-orders : Orders (goesBefore tie ws) n
-  goes-orders = record {
+  pub highest-orders : Orders (λ x y. ltb (W y) (W x) || (eqb (W x) (W y) && tie x y)) n
+  highest-orders = record {
     asym = λ x y lx ly e. test (G y x) (λ f. absurd
         (not-both x y lx ly (says (W x) (W y) (tie x y) e) (says (W y) (W x) (tie y x) f))) (λ f. f);
     trans = λ x y z lx ly lz e f. said (W x) (W z) (tie x z)
         (chained x y z lx ly lz (says (W x) (W y) (tie x y) e) (says (W y) (W z) (tie y z) f));
     total = λ x y lx ly ne e. said (W y) (W x) (tie y x) (other x y lx ly ne e);
   }
+
+-- An order may be turned round, and so by numbers with the lowest first is one.
+reversed : (tie : TieOrder) (n : ℕ) → Orders tie n → Orders (λ x y. tie y x) n
+reversed tie n O = record {
+  asym = λ x y lx ly e. O .asym y x ly lx e;
+  trans = λ x y z lx ly lz e f. O .trans z y x lz ly lx f e;
+  total = λ x y lx ly ne e. O .total y x ly lx (λ f. ne (sym f)) e;
+}
+
+pub lowest-orders : (tie : TieOrder) (number : ℕ → ℕ) (n : ℕ) → Orders tie n → Orders (lowestBy number tie) n
+lowest-orders tie number n O = reversed (λ y x. lowestBy number tie x y) n
+    (highest-orders (λ x y. tie y x) number n (reversed tie n O))
+
+module _ (tie : TieOrder) (ws : List ℕ) (n : ℕ) (O : Orders tie n) where
+  abbrev goes-orders : Orders (goesBefore tie ws) n
+  goes-orders = highest-orders tie (waitOf ws) n O
 
   -- x goes before every other of the first m
   pub record Best (m x : ℕ) : Type 0 where
@@ -72,14 +86,14 @@ module _ (tie : TieOrder) (ws : List ℕ) (n : ℕ) (O : Orders tie n) where
 
   pub best : (m : ℕ) → 0 < m → m ≤ n → Best m (longestOf tie ws m)
   best zero p l = absurd (not-suc-le-zero p)
-  best (suc zero) p l = cond-elim (Best 1) (G 0 0) (λ _. alone) (λ _. alone)
+  best (suc zero) p l = cond-elim (Best 1) (goesBefore tie ws 0 0) (λ _. alone) (λ _. alone)
     where
       alone : Best 1 0
       alone = record { inn = omega arith; over = λ y h ne. absurd (ne (omega arith)) }
   best (suc (suc m)) p l = go (longestOf tie ws (suc m)) (best (suc m) (omega arith) (omega arith))
     where
-      go : (x : ℕ) → Best (suc m) x → Best (suc (suc m)) (cond (G (suc m) x) (suc m) x)
-      go x B = cond-elim (Best (suc (suc m))) (G (suc m) x)
+      go : (x : ℕ) → Best (suc m) x → Best (suc (suc m)) (cond (goesBefore tie ws (suc m) x) (suc m) x)
+      go x B = cond-elim (Best (suc (suc m))) (goesBefore tie ws (suc m) x)
           (λ e. record {
             inn = omega arith;
             over = λ y h ne. test (eqb y x)

@@ -3,7 +3,9 @@
 use mathlib.Core.Path.{_≡_, refl, sym, ap, _∙_}
 use mathlib.Core.Bool.{Bool, true, false, not, _&&_, _||_, or-assoc, or-false}
 use mathlib.Core.List.{List, [], _∷_, _++_}
-use Prim.Native.Nat.{ℕ}
+use Prim.Native.Nat.{ℕ, zero, suc, _<_}
+use native.Mathlib.Nat.{not-suc-le-zero, le-of-suc-le-suc}
+use lib.ListN.{length, getD}
 use lib.Dec.{eqb}
 use borrow.Author.Tests.{eqb-true, eq-eqb, ne-eqb}
 use Rattle.role.proofs.Logic.{no, or-right}
@@ -65,6 +67,19 @@ chain-snoc R (y ∷ ys) x c h = (
     last : (z : ℕ) (u : Bool) → eqb z x ≡ u → (member z ys || (u || false)) ≡ true → R y z ≡ true
     last z true e m = rw (eqb-true z x e) (h y (first-in y ys))
     last z false e m = c .0 z (sym (or-false (member z ys)) ∙ m)
+
+-- what stands in a list is one of its members
+pub member-at : (xs : List ℕ) (j : ℕ) → j < length xs → member (getD xs j 0) xs ≡ true
+member-at [] j l = absurd (not-suc-le-zero l)
+member-at (x ∷ xs) zero l = first-in x xs
+member-at (x ∷ xs) (suc j) l = or-right (eqb (getD xs j 0) x) (member-at xs j (le-of-suc-le-suc l))
+
+pub chain-at : (R : ℕ → ℕ → Bool) (xs : List ℕ) → Chain R xs → (i j : ℕ) → i < j → j < length xs
+    → R (getD xs i 0) (getD xs j 0) ≡ true
+chain-at R [] c i j l u = absurd (not-suc-le-zero u)
+chain-at R (x ∷ xs) c i zero l u = absurd (not-suc-le-zero l)
+chain-at R (x ∷ xs) c zero (suc j) l u = c .0 (getD xs j 0) (member-at xs j (le-of-suc-le-suc u))
+chain-at R (x ∷ xs) c (suc i) (suc j) l u = chain-at R xs (c .1) i j (le-of-suc-le-suc l) (le-of-suc-le-suc u)
 
 pub chain-map : (R S : ℕ → ℕ → Bool) (xs : List ℕ)
     → ((x y : ℕ) → member x xs ≡ true → member y xs ≡ true → R x y ≡ true → S x y ≡ true) → Chain R xs → Chain S xs

@@ -1,6 +1,6 @@
--- Who has the next turn (document 02, Q-1): "A runner steps the party that has waited longest for a turn, ties to the
--- lowest party number". A wait is how many turns others have had since a party's own last one, or since the run
--- began: `ws` has one for each place.
+-- Who has the next turn (document 02, Q-1): "A runner steps the party that has waited longest for a turn". Ties are for
+-- a tie order to settle: that by address is in Ties.antt. A wait is how many turns others have had since a party's own
+-- last one, or since the run began: `ws` has one for each place.
 -- Assumes nothing.
 use Prim.Native.Nat.{ℕ, zero, suc, _≤_, _<_, _%_}
 use mathlib.Core.Path.{_≡_}
@@ -13,7 +13,7 @@ use lib.ListN.{length, getD, set, replicate}
 abbrev pub TieOrder : Type 0
 TieOrder = ℕ → ℕ → Bool
 
--- "ties to the lowest party number"
+-- "ties to the lowest party number": Q-1's order, and by address the last resort.
 abbrev pub byPlace : TieOrder
 byPlace x y = ltb x y
 

@@ -11,6 +11,9 @@
 -- Kept. What a call leaves of names and latches, on any bus: whatever a call does, and whatever follows on it.
 --
 -- Named. So no call changes a party's name.
+--
+-- AsBefore, Renumbered. The order by address is a matter of the names. Where the numbers go with the addresses it is
+-- the order by place; and where two buses have the same names, the order of one, renumbered, is that of the other.
 -- Assumes nothing.
 pub mod Examples
 pub mod Local
@@ -18,3 +21,5 @@ pub mod Noacc
 pub mod OnOffer
 pub mod Kept
 pub mod Named
+pub mod AsBefore
+pub mod Renumbered

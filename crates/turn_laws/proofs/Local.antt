@@ -145,9 +145,6 @@ module _ (b : Bus) (I : Inv b) (i : ℕ) (A : Accepts b i) where
   pub standing-kept : m.call b (stepOf i) .bus .standing ≡ b .standing
   standing-kept = rw as-local refl
 
-  pub count-kept : m.call b (stepOf i) .bus .count ≡ b .count
-  count-kept = rw as-local refl
-
   pub other-kept : (j : ℕ) → (j ≡ i → ⊥) → here (m.call b (stepOf i) .bus) j ≡ here b j
   other-kept j ne = rw as-local (local-other b I i (A .0) (acts b i .said) (acts b i .party) (b .standing) j ne)
 

@@ -21,15 +21,16 @@ use Rattle.bus.specs.Types.{Call}
 use Rattle.bus.specs.Types.ruling
 use Rattle.addresses.proofs.Unrefused.{fits}
 use Rattle.bus.proofs.Built.{placed-at}
+use Rattle.runner.specs.Ties.{nameAt}
 use Rattle.runner.specs.Lists.{expanded, built, led}
 use Rattle.runner.proofs.Lists.{stands-for-steps}
-use Rattle.turn_laws.specs.Turns.{nameAt, Named}
+use Rattle.turn_laws.specs.Turns.{Named}
 use Rattle.turn_laws.proofs.Kept.{effect-kept, accepted-kept}
 
 abbrev nameOf : Party → Name
 nameOf p = p .role .name
 
-call-names : (b : Bus) (c : Call) (j : ℕ) → nameAt (m.call b c .bus) j ≡ nameAt b j
+pub call-names : (b : Bus) (c : Call) (j : ℕ) → nameAt (m.call b c .bus) j ≡ nameAt b j
 call-names b c j =
     let i = placeOf c .0 in
     let v = m.viewAt (placeOf c) (lines b) b in

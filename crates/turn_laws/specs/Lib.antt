@@ -1,3 +1,4 @@
 -- The calls that give a turn, and what is proved of a step: what it changes, and what it leaves.
 pub mod Turns
+pub mod Numbering
 pub mod Examples

@@ -20,13 +20,11 @@ use Rattle.bus.specs.Settling.{answered}
 use Rattle.bus.specs.declared.Answer.{Answer}
 use Rattle.bus.specs.Types.ev
 use Rattle.runner.specs.Runner.{stepOf, steps}
+use Rattle.runner.specs.Ties.{nameAt}
 use Rattle.runner.specs.Lists.{LedFrom, LedTo}
 
 -- What no call changes: a party keeps the name that its build gave it, so that a host can tell from any bus which
 -- parties have secondaries (document 02, Q-3).
-
-abbrev pub nameAt : Bus → ℕ → Name
-nameAt b p = here b p .role .name
 
 -- On every bus that a start, calls and runs lead to.
 abbrev pub Named : Type 0

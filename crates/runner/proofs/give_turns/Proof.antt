@@ -4,15 +4,15 @@ use Prim.Native.Nat.{_-_}
 use native.Mathlib.Omega.{arith}
 use borrow.Author.Needs.{needs}
 use borrow.Author.Tests.{eq-eqb}
-use Rattle.runner.proofs.Giving.{Going, some-within, start, again, in-places, ends}
+use Rattle.runner.proofs.Giving.{Going, some-within, start, in-round, in-places, had, again, ends}
 use Rattle.runner.proofs.give_turns.Statement.{statement}
 use Rattle.runner.proofs.give_turns.Tie as tie
 
 abbrev Inv-loop : tie.InvT-loop
-Inv-loop T counts₀ n after₀ t₀ counts after t = Going after₀ n T counts after t
+Inv-loop turns counts₀ n keys after₀ i₀ t₀ counts after i t = Going after₀ n turns keys counts after i t
 
 abbrev μ-loop : tie.MeasureT-loop
-μ-loop T counts₀ n after₀ t₀ counts after t = T - t
+μ-loop turns counts₀ n keys after₀ i₀ t₀ counts after i t = turns - t
 
 returns : tie.Need-returns Inv-loop μ-loop
 returns c = rw (eq-eqb _ _ (c .if1 .taken)) refl
@@ -20,40 +20,46 @@ returns c = rw (eq-eqb _ _ (c .if1 .taken)) refl
 within-requires : tie.Need-within-requires Inv-loop μ-loop
 within-requires c κs = search needs
 
+keys-in-order-requires : tie.Need-keys-in-order-requires Inv-loop μ-loop
+keys-in-order-requires c κs = search needs
+
 loop-holds : tie.Need-loop-holds Inv-loop μ-loop
-loop-holds c = start _ _ _ (rw (c .within .ensures .0) (some-within _ (c .before .if1 .left))) (c .within .ensures .1)
+loop-holds c = start _ _ _ _ (rw (c .before .within .ensures .0) (some-within _ (c .before .before .if1 .left)))
+    (c .before .within .ensures .1) (rw (← c .before .within .ensures .0) at (c .keys-in-order .ensures))
 
-place-of-turn-requires : tie.Need-place-of-turn-requires Inv-loop μ-loop
-place-of-turn-requires c κs = c .before .loop .inv .some
+mul-place : tie.Need-mul-place Inv-loop μ-loop
+mul-place c = let z = in-round (c .before .loop .inv) in let y = c .before .loop .inv .few in search needs
 
-cast-t14 : tie.Need-cast-t14 Inv-loop μ-loop
-cast-t14 c = search needs
+array-read-place : tie.Need-array-read-place Inv-loop μ-loop
+array-read-place c = let z = in-round (c .before .loop .inv) in let y = c .before .loop .inv .few in omega arith
+
+cast-t21 : tie.Need-cast-t21 Inv-loop μ-loop
+cast-t21 c = let z = in-places (c .before .loop .inv) in search needs
 
 step-requires : tie.Need-step-requires Inv-loop μ-loop
 step-requires c κs = search needs
 
+cast-k : tie.Need-cast-k Inv-loop μ-loop
+cast-k c = search needs
+
 mul-counts : tie.Need-mul-counts Inv-loop μ-loop
-mul-counts c = let z = in-places (c .before .before .before .before .loop .inv)
-    (c .before .before .place-of-turn .ensures) in omega arith
+mul-counts c = let z = in-places (c .before .before .before .loop .inv) in search needs
 
 array-read-counts : tie.Need-array-read-counts Inv-loop μ-loop
-array-read-counts c = in-places (c .before .before .before .before .loop .inv)
-    (c .before .before .place-of-turn .ensures)
+array-read-counts c = in-places (c .before .before .before .loop .inv)
 
 add-counts : tie.Need-add-counts Inv-loop μ-loop
-add-counts c = omega (
-  arith,
-  c .before .before .before .before .loop .inv .small
-      (c .before .before .place-of-turn .result),
-)
+add-counts c = let z = had (c .before .before .before .loop .inv) in let y = c .before .before .loop-test .taken in
+    search needs
 
 mul-counts-2 : tie.Need-mul-counts-2 Inv-loop μ-loop
-mul-counts-2 c = let z = in-places (c .before .before .before .before .loop .inv)
-    (c .before .before .place-of-turn .ensures) in omega arith
+mul-counts-2 c = let z = in-places (c .before .before .before .loop .inv) in search needs
 
 array-write-counts : tie.Need-array-write-counts Inv-loop μ-loop
-array-write-counts c = in-places (c .before .before .before .before .loop .inv)
-    (c .before .before .place-of-turn .ensures)
+array-write-counts c = in-places (c .before .before .before .loop .inv)
+
+next-in-round-requires : tie.Need-next-in-round-requires Inv-loop μ-loop
+next-in-round-requires c κs = in-round (c .before .before .before .loop .inv)
 
 add-t : tie.Need-add-t Inv-loop μ-loop
 add-t c = search needs
@@ -63,11 +69,11 @@ loop-less c = search needs
 
 loop-again : tie.Need-loop-again Inv-loop μ-loop
 loop-again c = again (c .before .before .before .before .loop .inv) (c .before .before .before .loop-test .taken)
-    (c .before .before .place-of-turn .ensures) (c .before .step .ensures)
+    (c .before .before .step .ensures) (c .next-in-round .ensures)
 
 returns-2 : tie.Need-returns-2 Inv-loop μ-loop
-returns-2 c = ends (c .before .loop .inv) (c .loop-test .left) (c .before .before .within .ensures .0)
-    (c .before .before .before .if1 .left)
+returns-2 c = ends (c .before .loop .inv) (c .loop-test .left) (c .before .before .before .within .ensures .0)
+    (c .before .before .before .before .if1 .left)
 
 pub give-turns-spec : {M : Type 1} → statement M
 give-turns-spec =
@@ -77,15 +83,19 @@ give-turns-spec =
     μ-loop
     returns
     within-requires
+    keys-in-order-requires
     loop-holds
-    place-of-turn-requires
-    cast-t14
+    mul-place
+    array-read-place
+    cast-t21
     step-requires
+    cast-k
     mul-counts
     array-read-counts
     add-counts
     mul-counts-2
     array-write-counts
+    next-in-round-requires
     add-t
     loop-less
     loop-again
