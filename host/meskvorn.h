@@ -179,8 +179,8 @@ uint64_t meskvorn_write_register(uint8_t (*rows)[MESKVORN_ROW], uint8_t party, u
 uint16_t meskvorn_name(const uint8_t (*rows)[MESKVORN_ROW], uint8_t party);
 
 /* Gives so many turns on the bus, each to the party that has waited longest for one since the call began, of equals to
- * the lowest. Writes how many turns each of the fifteen places had, and gives the refusal: 0, or 1 on the bus of no
- * parties, where all counts are 0. */
+ * the one with the lowest address, then the lowest secondary address. Writes how many turns each of the fifteen places
+ * had, and gives the refusal: 0, or 1 on the bus of no parties, where all counts are 0. */
 uint8_t meskvorn_turns(uint8_t (*rows)[MESKVORN_ROW], uint16_t turns, uint16_t *counts);
 
 /* Writes which parties drive each line, and how many they are, as the call finds the bus; there is an entry for each

@@ -145,7 +145,8 @@ impl Bus {
     }
 
     /// Gives so many turns, each to the party that has waited longest for one since this call began, of
-    /// equals to the lowest. The bus of no parties is refused with 1.
+    /// equals to the one with the lowest primary address, then the lowest secondary. The bus of no parties
+    /// is refused with 1.
     pub fn give_turns(&mut self, turns: u16) -> Turns {
         let mut counts = [0; MOST_PARTIES];
         // SAFETY: the rows are this bus's own, and the counts are lent for the call.
