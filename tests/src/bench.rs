@@ -1,5 +1,6 @@
 //! Records per second of the proved library and of the model, and calls per second of the library's
-//! single calls and runs, in one run and on the same scripts. And the time of a step by itself.
+//! single calls and runs, in one run and on the same scripts. And the time of a step by itself, and of a
+//! turn in short runs.
 
 use std::hint::black_box;
 use std::time::{Duration, Instant};
@@ -8,6 +9,7 @@ use meskvorn::Bus;
 
 use crate::compare::product::Product;
 use crate::compare::subject::Subject;
+use crate::ledger::bound::TURNS_A_PARTY;
 use crate::model::script::{
     self, record, Call, Record, BUILD, CLEAR, LISTEN, LONGEST, READ, RECORD, STEP, TALK, WRITE,
 };
@@ -20,6 +22,9 @@ const FIRST_ADDRESS: u8 = 1;
 const ROUNDS_A_BYTE: u8 = 4;
 const LEAST: Duration = Duration::from_millis(300);
 const ROUNDS: usize = 5;
+
+/// So many that looking at the clock costs nothing beside them.
+const SHORT_RUNS: u16 = 100;
 
 /// A script of data bytes from one talker to all others, with how many bytes it carries.
 struct Traffic {
@@ -160,6 +165,29 @@ fn step_row(parties: u8) {
     );
 }
 
+/// Nanoseconds a turn takes in runs of seven rounds, on a rack with these addresses.
+fn short_runs(addresses: &[u8]) -> f64 {
+    let (mut bus, _) = Bus::build(addresses, 0);
+    bus.interface_clear(0);
+    let turns = TURNS_A_PARTY * addresses.len() as u16;
+    let seconds = fastest(|_| {
+        for _ in 0..SHORT_RUNS {
+            black_box(bus.give_turns(turns));
+        }
+    });
+    1e9 * seconds / f64::from(SHORT_RUNS) / f64::from(turns)
+}
+
+/// Runs of few turns show what a run costs besides: the memory read and written, and the order found.
+fn order_row(parties: u8) {
+    let mut addresses: Vec<u8> = (FIRST_ADDRESS..).take(parties.into()).collect();
+    let rising = short_runs(&addresses);
+    addresses.reverse();
+    let falling = short_runs(&addresses);
+    let turns = TURNS_A_PARTY * u16::from(parties);
+    println!("| {parties} | {turns} | {rising:.1} | {falling:.1} |");
+}
+
 /// Prints the tables.
 pub fn run() {
     println!(
@@ -176,6 +204,12 @@ pub fn run() {
     println!("|---|---|---|---|");
     for parties in [2, 5, 15] {
         step_row(parties);
+    }
+    println!();
+    println!("| parties | turns of a run | a turn, rising addresses, ns | falling addresses, ns |");
+    println!("|---|---|---|---|");
+    for parties in [2, 5, 15] {
+        order_row(parties);
     }
 }
 

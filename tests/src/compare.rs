@@ -3,6 +3,7 @@
 
 pub mod alike;
 pub mod any_memory;
+pub mod any_order;
 pub mod builds;
 mod call_by_call;
 mod difference;

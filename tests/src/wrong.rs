@@ -9,6 +9,7 @@ mod registers;
 mod runs;
 mod second_requests;
 mod secondaries;
+mod turn_orders;
 
 pub use builds::{BuildFault, LENGTH_FAULTS, NAME_FAULTS};
 pub use drivers::{DriversFault, Shows, DRIVERS_FAULTS};
@@ -18,6 +19,7 @@ pub use registers::{AccessFault, ACCESS_FAULTS};
 pub use runs::{RunFault, WrongRun, RUN_FAULTS};
 pub use second_requests::REQUEST_FAULTS;
 pub use secondaries::SECONDARY_FAULTS;
+pub use turn_orders::{OrderFault, ORDER_FAULTS, UNBUILT_ORDER_FAULTS};
 
 use crate::compare::subject::{like_lines_by, try_accesses_by, try_run_by, Subject};
 use crate::lists::{pieces, stands_for};

@@ -1,11 +1,11 @@
 //! Calls, runs and accesses on memory of any content, be it such as no build gives: what is refused
-//! leaves every byte as it was.
+//! leaves every byte as it was. And the order of runs there, by a module of its own.
 
 use meskvorn::Bus;
 
 use super::memory::{bus_in, Rows, ROW};
 use super::product::{self, Product};
-use super::{subject, words};
+use super::{any_order, subject, words};
 use crate::lists::guided::Guided;
 use crate::lists::likely_accesses::any_access;
 use crate::lists::random_numbers::Random;
@@ -17,8 +17,8 @@ const CONTENTS: usize = 200_000;
 const CALLS_EACH: usize = 8;
 const ACCESSES_EACH: usize = 8;
 
-/// Fewer of a refusal would say little.
-const LEAST: u64 = 100;
+/// Fewer of a refusal, or of a sort of names, would say little.
+pub(super) const LEAST: u64 = 100;
 
 /// The refusals that a call can meet, and that it is accepted.
 const OF_CALLS: [Refusal; 9] = [
@@ -203,16 +203,23 @@ fn samples(seed: u64) -> Vec<Rows> {
     rows.collect()
 }
 
-/// The library. True if what it refused left every byte, and every refusal came.
+fn compare_library(seed: u64) -> Result<Vec<String>, String> {
+    let samples = samples(seed);
+    let met = run::<Bus>(&samples, seed)?;
+    met.print();
+    let orders = any_order::run(&samples, seed, bus_in)?;
+    orders.print();
+    Ok([met.missing(), orders.missing()].concat())
+}
+
+/// The library. True if what it refused left every byte, its runs were their steps, and all came.
 pub fn run_library(seed: u64) -> bool {
-    match run::<Bus>(&samples(seed), seed) {
+    match compare_library(seed) {
         Err(story) => {
             println!("DIFFERENCE {story}");
             false
         }
-        Ok(met) => {
-            met.print();
-            let missing = met.missing();
+        Ok(missing) => {
             if !missing.is_empty() {
                 println!("NEVER CAME {}", missing.join(", "));
             }

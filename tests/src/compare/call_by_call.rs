@@ -113,6 +113,7 @@ impl Walk<'_> {
         }
         let subject = self.subject.give_turns(turns);
         self.tally.count_run(&model);
+        self.tally.ties.enter(&before, turns);
         self.tally.marks.enter_run(&before);
         match (model == subject, same) {
             (true, true) => Ok(()),

@@ -40,7 +40,15 @@ fn in_the_models_terms(answer: meskvorn::Answer) -> Answer {
     }
 }
 
-fn give_turns(bus: &mut Bus, turns: u16) -> Turns {
+pub fn name(bus: &Bus, party: u8) -> Option<Name> {
+    let told = bus.name(party)?;
+    Some(Name {
+        primary: told.primary,
+        secondary: told.secondary,
+    })
+}
+
+pub fn give_turns(bus: &mut Bus, turns: u16) -> Turns {
     let told = bus.give_turns(turns);
     Turns {
         refusal: Refusal::ALL[told.refusal as usize],
@@ -127,11 +135,7 @@ impl Subject for Product {
     }
 
     fn name(&self, party: u8) -> Option<Name> {
-        let told = self.bus.name(party)?;
-        Some(Name {
-            primary: told.primary,
-            secondary: told.secondary,
-        })
+        name(&self.bus, party)
     }
 
     fn call(&mut self, asked: Call) -> Answer {

@@ -9,6 +9,8 @@ pub const TURNS_A_PARTY: u16 = 7;
 pub struct Start {
     parties: usize,
     secondaries: bool,
+    /// The parties are not numbered in address order.
+    against: bool,
     talker: u8,
     held: Data,
 }
@@ -30,6 +32,7 @@ impl Start {
         holds.then_some(Start {
             parties: bus.count,
             secondaries: bus.has_secondaries(),
+            against: !bus.in_address_order(),
             talker: place as u8,
             held,
         })
@@ -55,20 +58,23 @@ impl Start {
 /// How often the bound was tried, and where it came closest.
 #[derive(Clone, Copy, Default, Debug)]
 pub struct Tried {
-    /// On racks without secondaries, and with some.
-    pub starts: [u64; 2],
+    /// On racks without secondaries and with some, in address order; then against it.
+    pub starts: [u64; 4],
     /// Turns needed, and parties.
     pub closest: (usize, usize),
 }
 
 impl Tried {
-    pub const WORDS: [&'static str; 2] = [
+    pub const WORDS: [&'static str; 4] = [
         "starts of the bound",
         "starts of the bound with secondaries",
+        "starts of the bound against address order",
+        "starts of the bound with secondaries against address order",
     ];
 
     pub fn enter(&mut self, start: &Start, needed: usize) {
-        self.starts[usize::from(start.secondaries)] += 1;
+        let rack = usize::from(start.secondaries) + 2 * usize::from(start.against);
+        self.starts[rack] += 1;
         let (turns, parties) = self.closest;
         if needed * parties.max(1) > turns * start.parties {
             self.closest = (needed, start.parties);
@@ -78,9 +84,10 @@ impl Tried {
     pub fn words(&self) -> String {
         let (turns, parties) = self.closest;
         let share = turns as f64 / parties.max(1) as f64;
-        let [plain, extended] = self.starts;
+        let [plain, extended, plain_against, extended_against] = self.starts;
         format!(
-            "bound tried at {plain} starts, and at {extended} with secondaries; \
+            "bound tried at {plain} starts, and at {extended} with secondaries; against address \
+            order at {plain_against}, and at {extended_against} with secondaries; \
             at most {share:.2} turns a party, {turns} at {parties} parties"
         )
     }

@@ -1,6 +1,6 @@
 //! How often everything came that a comparison has to meet: refusals, events, losses, runs and starts
-//! of the bound here; effects of secondaries, lengths of their lists, numbers of drivers, cases of
-//! requests, accesses and feoi's marks in modules.
+//! of the bound here; numberings of the parties in runs, effects of secondaries, lengths of their lists,
+//! numbers of drivers, cases of requests, accesses and feoi's marks in modules.
 
 mod access_counts;
 mod driver_counts;
@@ -8,6 +8,7 @@ mod end_mark_cases;
 mod list_lengths;
 mod mark_counts;
 mod request_cases;
+mod tie_cases;
 
 pub use access_counts::Accesses;
 pub use driver_counts::Driven;
@@ -15,6 +16,7 @@ pub use end_mark_cases::{EndMarkCase, EndMarkCases};
 pub use list_lengths::Lengths;
 pub use mark_counts::Marks;
 pub use request_cases::{Asked, Case};
+pub use tie_cases::Ties;
 
 use super::bound::Tried;
 use crate::model::{Answer, Event, Refusal, Turns};
@@ -30,6 +32,7 @@ pub struct Tally {
     /// Runs accepted, runs refused.
     pub runs: [u64; 2],
     pub turns: u64,
+    pub ties: Ties,
     pub bound: Tried,
     pub marks: Marks,
     pub lengths: Lengths,
@@ -39,7 +42,7 @@ pub struct Tally {
     pub end_marks: EndMarkCases,
 }
 
-/// Fewer starts would say little of the bound, on racks without secondaries or with some.
+/// Fewer starts would say little of the bound, on racks of any sort.
 const LEAST_STARTS: u64 = 10_000;
 
 const LOSSES: [&str; 3] = ["dropped 1", "dropped 2", "broken 1"];
@@ -84,6 +87,7 @@ impl Tally {
         let starts = self.bound.starts.iter().zip(Tried::WORDS);
         let few = starts.filter(|(count, _)| **count < LEAST_STARTS);
         let few = few.map(|(_, word)| word);
+        let few = few.chain(self.ties.missing());
         let few = few.chain(self.lengths.missing());
         let few = few.chain(self.driven.missing());
         let few = few.chain(self.asked.missing());
@@ -107,6 +111,7 @@ impl Tally {
             "{accepted} runs with {} turns, {refused} refused",
             self.turns
         );
+        self.ties.print();
         println!("{}", self.bound.words());
         for (word, count) in Marks::WORDS.iter().zip(&self.marks.counts) {
             println!("    {word:<30} {count:>12}");

@@ -1,5 +1,7 @@
 //! Random lists that look at the model's state to go where bytes stand.
 
+mod builds;
+
 use std::collections::VecDeque;
 
 use super::likely_accesses::{self, likely_access};
@@ -8,19 +10,18 @@ use super::likely_arguments::{
 };
 use super::pieces::{self, Piece};
 use super::random_numbers::Random;
-use super::random_racks;
 use super::scenarios::{scenario, Goal};
 use crate::model::script::{
     self, Record, BUILD, CLEAR, DROP, LAST_OPERATION, LINES, LISTEN, POLL, READ, REQUEST, RESET,
     STANDBY, STEP, TAKE, TALK, WRITE,
 };
-use crate::model::{Acceptor, Bus, Control, Event, Lists};
+use crate::model::{Acceptor, Bus, Control, Event};
 
 /// How one list behaves, in times per thousand.
 #[derive(Clone, Copy, Default)]
 struct Habits {
-    /// How often a build has secondaries.
-    secondaries: usize,
+    /// How often a build is from lists, mostly with secondaries; all others are scripts' own.
+    from_lists: usize,
     /// How often the bus is built anew, or a build of one is refused.
     builds: usize,
     disturb: usize,
@@ -77,7 +78,7 @@ impl Guided {
     pub fn go_on(&mut self, records: &[Record], more: usize) -> &[u8] {
         self.begin(records);
         self.habits = Habits {
-            secondaries: 0,
+            from_lists: 0,
             builds: 0,
             disturb: 450,
             wild: 0,
@@ -108,7 +109,7 @@ impl Guided {
     fn draw_habits(&mut self) {
         let random = &mut self.random;
         self.habits = Habits {
-            secondaries: random.pick(&[0, 950]),
+            from_lists: random.pick(&[0, 950, 950]),
             builds: random.pick(&[0, 0, 0, 8]),
             disturb: random.pick(&[0, 20, 60, 150, 400]),
             wild: random.pick(&[0, 0, 0, 5, 30, 300]),
@@ -145,55 +146,6 @@ impl Guided {
         self.good_build();
     }
 
-    fn good_build(&mut self) {
-        let random = &mut self.random;
-        let count = match random.below(20) {
-            0 => 1,
-            1..=7 => 2,
-            8..=13 => 3,
-            14..=16 => 4,
-            17..=18 => 1 + random.below(15),
-            _ => random.pick(&[14, 15]),
-        };
-        let system = random.below(count) as u8;
-        if random.per_mille(self.habits.secondaries) {
-            let lists = random_racks::lists(count, random);
-            return self.build(&lists, system);
-        }
-        let first = match random.below(4) {
-            0 => 0,
-            1 => 31 - count,
-            _ => random.below(32 - count),
-        };
-        self.call(script::record(BUILD, system, count as u8, first as u8));
-    }
-
-    fn bad_build(&mut self) {
-        let random = &mut self.random;
-        let count = 1 + random.below(15) as u8;
-        if random.per_mille(self.habits.secondaries) {
-            let lists = random_racks::spoiled(count.into(), random);
-            return self.build(&lists, 0);
-        }
-        let record = match random.below(5) {
-            0 => script::record(BUILD, random.below(2) as u8, 0, random.below(31) as u8),
-            1 => script::record(BUILD, 0, 16 + random.below(240) as u8, 0),
-            2 => script::record(BUILD, 0, count, 32 - count),
-            3 => script::record(BUILD, 0, count, 31 + random.below(225) as u8),
-            _ => script::record(BUILD, count + random.below(240) as u8, count, 0),
-        };
-        self.call(record);
-    }
-
-    /// The plan was for the bus that goes.
-    fn build_anew(&mut self) {
-        self.plan.clear();
-        if self.random.per_mille(300) {
-            self.bad_build();
-        }
-        self.good_build();
-    }
-
     /// A wrong mark, a short tail, or both.
     fn bad_ending(&mut self) {
         let mut record = self.wild_record();
@@ -207,11 +159,6 @@ impl Guided {
     fn call(&mut self, record: Record) {
         pieces::enter(&mut self.bus, &Piece::of(&record));
         self.list.extend_from_slice(&record);
-    }
-
-    fn build(&mut self, lists: &Lists, system: u8) {
-        self.bus.build_extended(lists, system);
-        self.list.extend(pieces::build(lists, system).concat());
     }
 
     fn next_call(&mut self) {

@@ -31,8 +31,9 @@ const EXTENDED_COMMANDS: &[u8] = &[
     0x3F, 0x5F, 0x18, 0x19, 0x09, 0x25, 0x45, 0x26, 0x46, 0x61, 0x62,
 ];
 
+/// Two are numbered against their secondaries.
 const EXTENDED_RACK: [Name; PARTIES as usize] =
-    [Name::plain(5), Name::extended(6, 1), Name::extended(6, 2)];
+    [Name::plain(5), Name::extended(6, 2), Name::extended(6, 1)];
 
 /// What tells one party's state from another's, with the bus around it.
 #[derive(Clone, Copy, PartialEq, Eq, Hash)]
@@ -171,8 +172,9 @@ fn all_calls() -> Vec<Record> {
         script::record(LAST_OPERATION + 1, 255, 2, 2),
         script::record(255, 0, 0, 0),
     ];
-    for turns in [1, TURNS_A_PARTY] {
-        calls.push(pieces::run(turns * u16::from(PARTIES)));
+    let round = u16::from(PARTIES);
+    for turns in [round - 1, round, TURNS_A_PARTY * round] {
+        calls.push(pieces::run(turns));
     }
     calls.push(pieces::DRIVERS);
     for party in [0, 1, 2, PARTIES, 255] {

@@ -65,14 +65,17 @@ pub fn likely_register(random: &mut Random) -> u8 {
     random.pick(&[0x00, 0x01, 0x40, 0x41, 0x40, 0x41, 0xFF, 0xBF, any])
 }
 
-/// Turns for a run: about as many as a byte takes; now and then any number.
+/// Turns for a run: fewer than a round, so that its counts tell who was first, or about as many as a
+/// byte takes; now and then any number.
 pub fn likely_turns(bus: &Bus, random: &mut Random) -> u16 {
     let (count, bound) = (bus.count, usize::from(TURNS_A_PARTY) * bus.count);
-    let turns = match random.below(8) {
+    let turns = match random.below(10) {
         0 => random.below(2),
-        1 => count,
-        2 => bound,
-        3 if random.per_mille(1) => 65_535 - random.below(2) * random.below(65_536),
+        1..=2 => random.below(count.max(1)),
+        3 => count,
+        4 => bound,
+        5 if random.per_mille(1) => 65_535 - random.below(2) * random.below(65_536),
+        6 => bound + random.below(20),
         _ => random.below(bound + 2),
     };
     turns as u16

@@ -168,7 +168,7 @@ pub fn as_script(list: &[u8]) -> Option<Cow<'_, [u8]>> {
 }
 
 fn with_records_alone(list: &[u8]) -> Vec<u8> {
-    // A run's order needs the number of parties, and an access the mark of its party.
+    // A run's order needs the parties, and an access the mark of its party.
     let mut bus = Bus::new();
     let mut script = Vec::new();
     for bytes in list.chunks(RECORD) {

@@ -1,9 +1,21 @@
-//! Names for builds: racks of parties with and without secondaries, and the lists that give them.
+//! Names for builds: racks of parties with and without secondaries, numbered in address order and against
+//! it, and the lists that give them.
 
 use super::random_numbers::Random;
 use crate::model::{Lists, Name, MOST_ADDRESS};
 
-/// So many distinct addresses, 31 at the most, in an order of chance.
+/// In address order, in the reverse of it, or as they come.
+fn number<T, K: Ord>(rack: &mut [T], by_address: fn(&T) -> K, random: &mut Random) {
+    let order = random.below(4);
+    if order < 2 {
+        rack.sort_by_key(by_address);
+    }
+    if order == 1 {
+        rack.reverse();
+    }
+}
+
+/// So many distinct addresses, 31 at the most; half the time in an order of chance.
 pub fn addresses(count: usize, random: &mut Random) -> Vec<u8> {
     let mut addresses: Vec<u8> = (0..=MOST_ADDRESS).collect();
     for place in 0..addresses.len() {
@@ -11,6 +23,7 @@ pub fn addresses(count: usize, random: &mut Random) -> Vec<u8> {
         addresses.swap(place, other);
     }
     addresses.truncate(count);
+    number(&mut addresses, |address| *address, random);
     addresses
 }
 
@@ -36,6 +49,7 @@ pub fn mixed(count: usize, random: &mut Random) -> Vec<Name> {
             names.push(name);
         }
     }
+    number(&mut names, |name| name.by_address(), random);
     names
 }
 
@@ -56,9 +70,9 @@ fn spoil(names: &mut [Name], random: &mut Random) {
     }
 }
 
-/// Lists for a rack of both sorts, now and then of addresses alone.
+/// Lists for a rack of both sorts, at times of addresses alone.
 pub fn lists(count: usize, random: &mut Random) -> Lists {
-    if random.per_mille(150) {
+    if random.per_mille(350) {
         Lists::plain(&addresses(count, random))
     } else {
         Lists::of(&mixed(count, random))

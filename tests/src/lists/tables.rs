@@ -1,17 +1,18 @@
-//! Tables run whole: builds, operations, places, poll registers, runs and damaged scripts here; heard
-//! bytes, second requests, drivers, registers, feoi's marks and starts of the bound in modules of their
+//! Tables run whole: builds, operations, places, poll registers and damaged scripts here; heard bytes,
+//! second requests, drivers, registers, feoi's marks, runs and starts of the bound in modules of their
 //! own.
 
 pub mod bound_starts;
 pub mod drivers;
 pub mod end_marks;
 pub mod heard_bytes;
+mod racks;
 pub mod registers;
+pub mod runs;
 pub mod second_requests;
 
 use super::command_codes::SPE;
 use super::composer::Composer;
-use super::guided::Guided;
 use super::random_numbers::Random;
 use crate::compare::{Comparison, Finding};
 use crate::model::script::{
@@ -110,35 +111,6 @@ fn poll_registers(comparison: &mut Comparison) -> Done {
     Ok(())
 }
 
-/// The last party has a byte for all others; then a run, and calls of all sorts after it.
-fn one_run(comparison: &mut Comparison, guided: &mut Guided, count: u8, turns: u16) -> Done {
-    let talker = count.saturating_sub(1);
-    let mut composer = Composer::new();
-    composer.call(BUILD, 0, count, 3);
-    composer.call(TALK, talker, 1, 0);
-    for party in 0..talker {
-        composer.call(LISTEN, party, 1, 0);
-    }
-    composer.call(WRITE, talker, 0x41, 1);
-    composer.run(turns);
-    comparison.list(guided.go_on(&composer.records, 12))
-}
-
-/// Every number of parties with numbers of turns about their bounds; the most turns for some.
-fn runs(comparison: &mut Comparison, guided: &mut Guided) -> Done {
-    for count in 0..=15 {
-        let parties = u16::from(count);
-        let rounds = (0..8).flat_map(|round| round * parties..round * parties + 2);
-        for turns in rounds.chain([255, 256, 257, 1000]) {
-            one_run(comparison, guided, count, turns)?;
-        }
-    }
-    for count in [0, 2, 15] {
-        one_run(comparison, guided, count, u16::MAX)?;
-    }
-    Ok(())
-}
-
 /// Tails of every length, wrong marks in every place, and scripts about the longest length.
 fn damaged_scripts(comparison: &mut Comparison, random: &mut Random) -> Done {
     let whole = worked_script();
@@ -174,6 +146,6 @@ pub fn run(comparison: &mut Comparison, seed: u64) -> Done {
     drivers::run(comparison)?;
     registers::run(comparison, seed)?;
     end_marks::run(comparison)?;
-    runs(comparison, &mut Guided::new(seed))?;
+    runs::run(comparison, seed)?;
     damaged_scripts(comparison, &mut Random::new(seed))
 }

@@ -1,17 +1,26 @@
 //! Runs with one mistake each; every single call is right.
 
+use super::OrderFault;
 use crate::compare::subject::{like_lines_by, try_accesses_by, try_run_by, Subject};
 use crate::model::script::{self, Call};
 use crate::model::{
     Access, Answer, Bus, Drivers, Event, Lists, Name, Refusal, Turns, Waiting, MOST_PARTIES,
 };
 
-/// A run. The number is the machine's to keep between runs, 0 at the start.
-pub type RunFault = fn(&mut Bus, u16, &mut usize) -> Turns;
+/// What a machine keeps from one run to the next.
+#[derive(Clone, Default)]
+pub struct Kept {
+    turns: usize,
+    /// A round of the first run with so many parties.
+    order: Vec<usize>,
+}
+
+pub type RunFault = fn(&mut Bus, u16, &mut Kept) -> Turns;
 
 pub const RUN_FAULTS: &[(&str, RunFault)] = &[
-    ("ties to the highest place", highest_first),
-    ("ties to the lowest address", lowest_address_first),
+    ("rounds after the first go by places", first_round_alone),
+    ("the order of the rack before", order_before),
+    ("counts by the order of turns", counts_by_order),
     ("the waiting of who was stepped goes on", never_set_back),
     ("a run goes on where the last one stopped", goes_on),
     ("counts of the next party", next_partys_counts),
@@ -34,59 +43,80 @@ fn in_order(bus: &mut Bus, order: impl Iterator<Item = usize>) -> Turns {
     Turns { refusal, counts }
 }
 
-/// The right turns, with each place standing for another.
-fn renamed(bus: &mut Bus, turns: u16, name: impl Fn(usize) -> usize) -> Turns {
+/// One round in the right order.
+fn round(bus: &Bus) -> Vec<usize> {
+    Waiting::new(&bus.names()).take(bus.count).collect()
+}
+
+/// Rounds in this order. No parties have none.
+fn rounds(bus: &mut Bus, turns: u16, order: &[usize]) -> Turns {
     if bus.count == 0 {
         return bus.give_turns(turns);
     }
-    let order = Waiting::new(bus.count).take(usize::from(turns));
-    in_order(bus, order.map(name))
+    in_order(bus, order.iter().copied().cycle().take(usize::from(turns)))
 }
 
-fn highest_first(bus: &mut Bus, turns: u16, _: &mut usize) -> Turns {
-    let count = bus.count;
-    renamed(bus, turns, |place| count - 1 - place)
+fn first_round_alone(bus: &mut Bus, turns: u16, _: &mut Kept) -> Turns {
+    let (first, count) = (round(bus), bus.count);
+    if count == 0 {
+        return bus.give_turns(turns);
+    }
+    let order = first.into_iter().chain((0..count).cycle());
+    in_order(bus, order.take(usize::from(turns)))
 }
 
-fn lowest_address_first(bus: &mut Bus, turns: u16, _: &mut usize) -> Turns {
-    let mut places: Vec<usize> = (0..bus.count).collect();
-    places.sort_by_key(|&place| bus.parties[place].name.primary);
-    renamed(bus, turns, |place| places[place])
+fn order_before(bus: &mut Bus, turns: u16, kept: &mut Kept) -> Turns {
+    if kept.order.len() != bus.count {
+        kept.order = round(bus);
+    }
+    rounds(bus, turns, &kept.order)
 }
 
-fn never_set_back(bus: &mut Bus, turns: u16, _: &mut usize) -> Turns {
-    renamed(bus, turns, |_| 0)
+fn counts_by_order(bus: &mut Bus, turns: u16, _: &mut Kept) -> Turns {
+    let order = round(bus);
+    let mut told = bus.give_turns(turns);
+    let counts = told.counts;
+    for (turn, place) in order.into_iter().enumerate() {
+        told.counts[turn] = counts[place];
+    }
+    told
 }
 
-fn goes_on(bus: &mut Bus, turns: u16, had: &mut usize) -> Turns {
-    let (first, count) = (*had, bus.count);
-    *had += usize::from(turns);
-    renamed(bus, turns, |place| (first + place) % count)
+fn never_set_back(bus: &mut Bus, turns: u16, _: &mut Kept) -> Turns {
+    let order = round(bus);
+    rounds(bus, turns, &order[..order.len().min(1)])
 }
 
-fn next_partys_counts(bus: &mut Bus, turns: u16, _: &mut usize) -> Turns {
+fn goes_on(bus: &mut Bus, turns: u16, kept: &mut Kept) -> Turns {
+    let mut order = round(bus);
+    order.rotate_left(kept.turns % bus.count.max(1));
+    kept.turns += usize::from(turns);
+    rounds(bus, turns, &order)
+}
+
+fn next_partys_counts(bus: &mut Bus, turns: u16, _: &mut Kept) -> Turns {
     let mut told = bus.give_turns(turns);
     told.counts.rotate_left(1);
     told
 }
 
-fn one_too_few(bus: &mut Bus, turns: u16, _: &mut usize) -> Turns {
+fn one_too_few(bus: &mut Bus, turns: u16, _: &mut Kept) -> Turns {
     bus.give_turns(turns.saturating_sub(1))
 }
 
-fn one_too_many(bus: &mut Bus, turns: u16, _: &mut usize) -> Turns {
+fn one_too_many(bus: &mut Bus, turns: u16, _: &mut Kept) -> Turns {
     bus.give_turns(turns.saturating_add(1))
 }
 
-fn eight_bits(bus: &mut Bus, turns: u16, _: &mut usize) -> Turns {
+fn eight_bits(bus: &mut Bus, turns: u16, _: &mut Kept) -> Turns {
     bus.give_turns(turns % 256)
 }
 
-fn not_given(bus: &mut Bus, turns: u16, _: &mut usize) -> Turns {
+fn not_given(bus: &mut Bus, turns: u16, _: &mut Kept) -> Turns {
     bus.clone().give_turns(turns)
 }
 
-fn stops_at_an_end(bus: &mut Bus, turns: u16, _: &mut usize) -> Turns {
+fn stops_at_an_end(bus: &mut Bus, turns: u16, _: &mut Kept) -> Turns {
     let mut copy = *bus;
     let order = bus.order_of(turns);
     let end = order
@@ -95,12 +125,16 @@ fn stops_at_an_end(bus: &mut Bus, turns: u16, _: &mut usize) -> Turns {
     bus.give_turns(end.map_or(turns, |place| place as u16 + 1))
 }
 
-fn two_by_turns(bus: &mut Bus, turns: u16, _: &mut usize) -> Turns {
-    let count = bus.count;
-    renamed(bus, turns, |place| place.min(1) % count)
+/// The first of a round, then the second in place of all others.
+fn two_by_turns(bus: &mut Bus, turns: u16, _: &mut Kept) -> Turns {
+    let mut order = round(bus);
+    if let [_, second, rest @ ..] = &mut order[..] {
+        rest.fill(*second);
+    }
+    rounds(bus, turns, &order)
 }
 
-fn nothing_accepted(bus: &mut Bus, turns: u16, _: &mut usize) -> Turns {
+fn nothing_accepted(bus: &mut Bus, turns: u16, _: &mut Kept) -> Turns {
     let mut told = bus.give_turns(turns);
     if turns == 0 {
         told.refusal = Refusal::Accepted;
@@ -108,18 +142,46 @@ fn nothing_accepted(bus: &mut Bus, turns: u16, _: &mut usize) -> Turns {
     told
 }
 
+#[derive(Clone, Copy)]
+enum Fault {
+    OfRun(RunFault),
+    OfOrder(OrderFault),
+}
+
+impl Fault {
+    fn give_turns(self, bus: &mut Bus, turns: u16, kept: &mut Kept) -> Turns {
+        match self {
+            Fault::OfRun(run) => run(bus, turns, kept),
+            Fault::OfOrder(_) if bus.count == 0 => bus.give_turns(turns),
+            Fault::OfOrder(order) => {
+                let order = order(&bus.names());
+                rounds(bus, turns, &order)
+            }
+        }
+    }
+}
+
 /// The model, with a fault in place of its run.
 pub struct WrongRun {
     bus: Bus,
-    kept: usize,
-    fault: RunFault,
+    kept: Kept,
+    fault: Fault,
 }
 
 impl WrongRun {
     pub fn new(fault: RunFault) -> WrongRun {
+        WrongRun::with(Fault::OfRun(fault))
+    }
+
+    /// The turns go round in this order.
+    pub fn ordered(fault: OrderFault) -> WrongRun {
+        WrongRun::with(Fault::OfOrder(fault))
+    }
+
+    fn with(fault: Fault) -> WrongRun {
         WrongRun {
             bus: Bus::new(),
-            kept: 0,
+            kept: Kept::default(),
             fault,
         }
     }
@@ -131,7 +193,7 @@ impl Subject for WrongRun {
     }
 
     fn start(&mut self) {
-        *self = WrongRun::new(self.fault);
+        *self = WrongRun::with(self.fault);
     }
 
     fn build(&mut self, addresses: &[u8], system: u8) -> Answer {
@@ -151,11 +213,11 @@ impl Subject for WrongRun {
     }
 
     fn give_turns(&mut self, turns: u16) -> Turns {
-        (self.fault)(&mut self.bus, turns, &mut self.kept)
+        self.fault.give_turns(&mut self.bus, turns, &mut self.kept)
     }
 
     fn try_run(&self, turns: u16, order: &[u8]) -> (Vec<Answer>, bool) {
-        let run = |bus: &mut Bus| (self.fault)(bus, turns, &mut self.kept.clone());
+        let run = |bus: &mut Bus| self.fault.give_turns(bus, turns, &mut self.kept.clone());
         try_run_by(&self.bus, order, run, Bus::step)
     }
 

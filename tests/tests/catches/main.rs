@@ -1,6 +1,7 @@
 //! The comparison and the ledgers must catch wrong machines, and be quiet about the right one.
 
 mod any_memory;
+mod any_order;
 mod drivers;
 mod end_marks;
 mod findings;

@@ -7,8 +7,13 @@ type Call = fn(&mut Bus) -> Answer;
 
 /// Calls on the model; each is accepted.
 fn bus_after(calls: &[Call]) -> Bus {
+    at([5, 6, 7], calls)
+}
+
+/// The same with these addresses.
+fn at(addresses: [u8; 3], calls: &[Call]) -> Bus {
     let mut bus = Bus::new();
-    assert!(bus.build(&[5, 6, 7], 0).accepted());
+    assert!(bus.build(&addresses, 0).accepted());
     for call in calls {
         assert!(call(&mut bus).accepted());
     }
@@ -38,10 +43,19 @@ fn a_ready_listener() {
     assert_eq!(needed(&bus_after(&OFFER)), Some(11));
 }
 
-/// The listener took a byte that was broken off, and is in ACDS with data-in read.
 #[test]
-fn the_slowest_start_takes_six_turns_a_party_less_one() {
-    let mut bus = bus_after(&OFFER);
+fn a_ready_listener_against_address_order() {
+    // Rounds of 2, 1, 0: ACRS, offer; put; took, stay; AWNS, ended by the eleventh turn.
+    assert_eq!(needed(&at([7, 6, 5], &OFFER)), Some(11));
+    // Rounds of 1, 2, 0: offer, ACRS; put, took; stay, AWNS; ended by the tenth.
+    assert_eq!(needed(&at([7, 5, 6], &OFFER)), Some(10));
+    // Rounds of 2, 0, 1: ACRS, offer; put; took, stay; AWNS, ended by the twelfth.
+    assert_eq!(needed(&at([6, 7, 5], &OFFER)), Some(12));
+}
+
+/// The listener took a byte that was broken off, and is in ACDS with data-in read.
+fn slowest(addresses: [u8; 3]) -> Bus {
+    let mut bus = at(addresses, &OFFER);
     for party in [1, 2, 1, 2] {
         bus.step(party);
     }
@@ -50,8 +64,21 @@ fn the_slowest_start_takes_six_turns_a_party_less_one() {
     bus.read(2);
     bus.talk_only(1, 1);
     bus.write(1, 0x42, 0);
+    bus
+}
+
+#[test]
+fn the_slowest_start_takes_six_turns_a_party_less_one() {
     // AWNS; ANRS; ACRS; put, took; stay, AWNS; ended by the seventeenth turn.
-    assert_eq!(needed(&bus), Some(17));
+    assert_eq!(needed(&slowest([5, 6, 7])), Some(17));
+}
+
+#[test]
+fn the_slowest_start_against_address_order() {
+    // Rounds of 2, 1, 0: AWNS, offer; ANRS, stay; ACRS, put; took, stay; AWNS, ended by the fourteenth.
+    assert_eq!(needed(&slowest([7, 6, 5])), Some(14));
+    // Rounds of 1, 2, 0: as in address order, but party 0 has no turn before the last.
+    assert_eq!(needed(&slowest([7, 5, 6])), Some(16));
 }
 
 #[test]

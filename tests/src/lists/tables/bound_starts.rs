@@ -1,10 +1,11 @@
 //! Starts of the bound, table by table: listeners in every state that they may begin in.
 
+use super::racks::{Rack, RACKS};
 use crate::compare::{Comparison, Finding};
 use crate::ledger::bound::{Start, TURNS_A_PARTY};
 use crate::lists::composer::Composer;
-use crate::model::script::{BUILD, LISTEN, READ, STEP, TALK, WRITE};
-use crate::model::{Acceptor, Event, Name};
+use crate::model::script::{LISTEN, READ, STEP, TALK, WRITE};
+use crate::model::{Acceptor, Event};
 
 type Done = Result<(), Finding>;
 
@@ -19,23 +20,6 @@ const STATES: [Acceptor; 5] = [
 
 fn listens(state: Acceptor) -> bool {
     state != Acceptor::Aids
-}
-
-/// Builds so many parties.
-type Rack = fn(&mut Composer, u8);
-
-fn plain(composer: &mut Composer, count: u8) {
-    composer.call(BUILD, 0, count, 3);
-}
-
-/// Every third party without a secondary, the others at one primary.
-fn mixed(composer: &mut Composer, count: u8) {
-    let name = |place| match place % 3 {
-        0 => Name::plain(place),
-        _ => Name::extended(20, place),
-    };
-    let names: Vec<Name> = (0..count).map(name).collect();
-    composer.build(&names, 0);
 }
 
 /// The talker has a byte for the parties that listen.
@@ -125,7 +109,7 @@ fn many_parties(comparison: &mut Comparison, rack: Rack) -> Done {
 }
 
 pub fn run(comparison: &mut Comparison) -> Done {
-    for rack in [plain, mixed] {
+    for rack in RACKS {
         few_parties(comparison, rack)?;
         many_parties(comparison, rack)?;
     }
