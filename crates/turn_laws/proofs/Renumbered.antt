@@ -97,7 +97,7 @@ module _ (f g : ℕ → ℕ) (b c : Bus) (I : Inv b) (N : Renumbered f g b c) wh
       ∙ lt-ltb (g k) (b .count) (B .0)) ∙ sym e)
       (λ e. test (member k order)
       (λ h. let r = member-map f k (inOrder (byAddress b) (b .count)) h in
-      let z = N .there (r .0) (inside (r .0) (r .1)) .0 in let y = ltb-false k (b .count) e in
+      let z = N .there (r .0) (inside (r .0) (r .1)) in let y = ltb-false k (b .count) e in
       absurd (past (r .2) z y))
       (λ h. h ∙ sym e))
     where

@@ -53,7 +53,7 @@ AlwaysAsBefore = (b : Bus) → Numbered b → (xs : List Item)
 -- The bus c has the names of b, that of place x at place f x; g leads back.
 pub record Renumbered (f g : ℕ → ℕ) (b c : Bus) : Type 0 where
   pub count : c .count ≡ b .count
-  pub there : (x : ℕ) → x < b .count → (f x < b .count) × (g (f x) ≡ x)
+  pub there : (x : ℕ) → x < b .count → f x < b .count
   pub back : (y : ℕ) → y < b .count → (g y < b .count) × (f (g y) ≡ y)
   pub names : (x : ℕ) → x < b .count → nameAt c (f x) ≡ nameAt b x
 
