@@ -3,11 +3,11 @@
 use mathlib.Core.Path.{_≡_, refl, sym, ap, _∙_}
 use mathlib.Core.Bool.{true, false}
 use mathlib.Core.Logic.{inl, inr}
-use mathlib.Core.List.{List, [], _∷_, _++_, append-nil}
-use Prim.Native.Nat.{ℕ, _+_, _≤_, _<_}
+use mathlib.Core.List.{List, [], _∷_, _++_}
+use Prim.Native.Nat.{ℕ, _≤_, _<_}
 use native.Mathlib.Omega.{arith}
 use native.Mathlib.Nat.{mod-eq-of-lt}
-use lib.ListN.{length, getD}
+use lib.ListN.{getD}
 use lib.Dec.{ltb, eqb}
 use borrow.Author.Tests.{eqb-true, eqb-false, eq-eqb, ne-eqb, ltb-true, ltb-false, lt-ltb, le-ltb}
 use Rattle.role.proofs.Logic.{test, cond-elim, both, or-right}
@@ -23,9 +23,8 @@ use Rattle.runner.specs.Ties.{nameAt, primaryAt, rank, secondaryAt, lowestBy, b
 use Rattle.turn_laws.specs.Numbering.{IsBefore, FirstRound, Numbered, AsBefore, AlwaysAsBefore, OnlyAsBefore}
 use Rattle.runner.proofs.Members.{chain-at}
 use Rattle.runner.proofs.Queue.{rota}
-use Rattle.runner.proofs.Rota.{rota-round}
-use Rattle.runner.proofs.InOrder.{place-orders, order-length, order-chain, place-at, turns-order, same-order}
-use Rattle.runner.proofs.InOrder.{round-robin}
+use Rattle.runner.proofs.InOrder.{place-orders, order-length, order-chain, turns-order, same-order}
+use Rattle.runner.proofs.InOrder.{round-robin, turn-by-place}
 use Rattle.runner.proofs.ByAddress.{address-orders}
 use Rattle.runner.proofs.Giving.{some-within}
 use Rattle.runner.proofs.Lists.{call-count}
@@ -100,13 +99,6 @@ as-before b N t = let e = same-turns b N t in record {
   given = rw e refl;
 }
 
--- the turns of one round are the order
-one-round : (tie : TieOrder) (n : ℕ) → Orders tie n → 0 < n → turns tie n n ≡ inOrder tie n
-one-round tie n O l = turns-order tie n O l n ∙ whole (inOrder tie n) (order-length tie n)
-  where
-    whole : (q : List ℕ) → length q ≡ n → rota n q ≡ q
-    whole q e = let f : n ≡ length q + 0 = omega arith in ap (λ (t : ℕ). rota t q) f ∙ rota-round q 0 ∙ append-nil q
-
 -- the turns of a bus, where there are as many places as parties
 pub turns-of : (tie : TieOrder) (b : Bus) → 0 < b .count → b .count ≤ 15 → (t : ℕ)
     → turnsOf tie b t ≡ turns tie (b .count) t
@@ -115,31 +107,6 @@ turns-of tie b l k t = rw (ne-eqb (b .count) 0 (λ f. omega arith), fits) refl
     fits : within (b .count) ≡ b .count
     fits = cond-elim (λ (z : ℕ). z ≡ b .count) (ltb (b .count) 15) (λ _. refl)
         (λ f. let z = ltb-false (b .count) 15 f in omega arith)
-
-pub only-as-before : OnlyAsBefore
-only-as-before b small e x y l k = is-before b x y (cc (
-  chain-at (byAddress b) q (order-chain (byAddress b) n O n (omega arith)) x y l (rw (order-length (byAddress b) n) k),
-  here x (omega arith),
-  here y k,
-))
-  where
-    n : ℕ
-    n = b .count
-
-    q : List ℕ
-    q = inOrder (byAddress b) n
-
-    O : Orders (byAddress b) n
-    O = address-orders b n
-
-    round-of : (tie : TieOrder) → Orders tie n → turnsOf tie b n ≡ inOrder tie n
-    round-of tie O = turns-of tie b (omega arith) small n ∙ one-round tie n O (omega arith)
-
-    as-place : q ≡ inOrder byPlace n
-    as-place = sym (round-of (byAddress b) O) ∙ e ∙ round-of byPlace (place-orders n)
-
-    here : (j : ℕ) → j < n → getD q j 0 ≡ j
-    here j u = ap (λ (xs : List ℕ). getD xs j 0) as-place ∙ place-at n j u
 
 pub first-round : FirstRound
 first-round b small t i j l k u = is-before b _ _ (rw (at i (omega arith) (omega arith), at j k u)
@@ -158,6 +125,15 @@ first-round b small t i j l k u = is-before b _ _ (rw (at i (omega arith) (omega
     at : (i : ℕ) → i < n → i < t → getD (turnsOf (byAddress b) b t) i 0 ≡ getD q i 0
     at i a c = ap (λ (xs : List ℕ). getD xs i 0) (turns-of (byAddress b) b (omega arith) small t)
         ∙ round-robin (byAddress b) n O (omega arith) t .turn i c ∙ ap (λ (x : ℕ). getD q x 0) (mod-eq-of-lt a)
+
+-- the first round by place is 0, 1, 2, ..
+pub only-as-before : OnlyAsBefore
+only-as-before b small e x y l k =
+    rw (here x (omega arith), here y k) at (first-round b small (b .count) x y l k k)
+  where
+    here : (j : ℕ) → j < b .count → getD (turnsOf (byAddress b) b (b .count)) j 0 ≡ j
+    here j u = ap (λ (xs : List ℕ). getD xs j 0) (e ∙ turns-of byPlace b (omega arith) small (b .count))
+        ∙ turn-by-place (b .count) (omega arith) (b .count) j u ∙ mod-eq-of-lt u
 
 -- No call changes a name, so the parties stay numbered in address order.
 call-numbered : (b : Bus) (c : Call) → Numbered b → Numbered (m.call b c .bus)
