@@ -11,7 +11,8 @@ use Rattle.accepted.specs.Types.act-of
 use Rattle.effect.specs.Calls.{isOn}
 use Rattle.effect.specs.Effects.{stay, withStanding}
 use Rattle.host_calls.specs.HostCalls.{write, read, pollRegister, secondRequest, listenOnly, talkOnly, controlled}
-use Rattle.host_calls.specs.HostCalls.{dropHeld, reset, clear, tell, dataOut, markEnd}
+use Rattle.host_calls.specs.HostCalls.{dropHeld, reset, clear, tell, dataOut, markEnd, ownStatus}
+use Rattle.host_calls.specs.HostCalls.{parallelPoll}
 
 -- "A source takes the source step, any other party the acceptor step."
 abbrev pub step : View → Effect
@@ -38,6 +39,8 @@ acted v act-of.BusStatus = withStanding (v .standing) (tell v)
 acted v act-of.DoNothing = stay v
 -- Never accepted.
 acted v act-of.NoRegister = stay v
+acted v (act-of.OwnStatus on) = withStanding (v .standing) (ownStatus (isOn on) v)
+acted v act-of.ParallelPoll = withStanding (v .standing) (parallelPoll v)
 
 abbrev pub effectOf : View → Call → Effect
 effectOf v (call-of.Of i a) = acted v a

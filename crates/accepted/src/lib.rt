@@ -47,6 +47,8 @@ fn acted(a: Act, v: View) -> Effect
         Act::DoNothing => v.stay(),
         // Never accepted.
         Act::NoRegister => v.stay(),
+        Act::OwnStatus(on) => host_calls::own_status(is_on(on), v).with_standing(st),
+        Act::ParallelPoll => host_calls::parallel_poll(v).with_standing(st),
     }
 }
 

@@ -31,7 +31,7 @@ use Rattle.effect.specs.Stands.{sendsCommand}
 use Rattle.effect.specs.Effects.{say, does, stay, quiet, withStanding}
 use Rattle.bus.specs.Settling.{settleBus, settleBusAs, deserted, attention, settle, follow}
 use Rattle.host_calls.specs.HostCalls.{controlled, resetAcceptor, tell}
-use Rattle.refusals.specs.Refusals.{inStandby, standbyRefusal}
+use Rattle.refusals.specs.Refusals.{inStandby, activeRefusal}
 use Rattle.bus.specs.Machine.{viewAt, refusal, accepted}
 use Rattle.bus.specs.Delivery.{deed, neither, isPut, isHostPut, isTake, isEnd, isWrite, wrote, held}
 use Rattle.bus.proofs.Invariant.{busy, active-busy, sentBy, isCommand, inAcrs, is-acrs, waits, look, Inv, atnOf}
@@ -128,7 +128,7 @@ module _ (b : Bus) (I : Inv b) (p : Place) where
 
   pub standby-good : isAccepted (refusal (lines b) b (call-of.Of p act-of.GoToStandby)) ≡ true
       → Good b (call-of.Of p act-of.GoToStandby) (accepted (lines b) b (call-of.Of p act-of.GoToStandby))
-  standby-good ok = let r = known b p (standbyRefusal (isActive (here b (p .0))) (sendsCommand (p .0) (b .standing))) ok
+  standby-good ok = let r = known b p (activeRefusal (isActive (here b (p .0))) (sendsCommand (p .0) (b .standing))) ok
       in
       let a = if-so (isActive (here b (p .0)))
       (cond (sendsCommand (p .0) (b .standing)) ruling.Standing ruling.Accepted) ruling.Role refl (r .1) in

@@ -26,7 +26,8 @@ use Rattle.bus.proofs.Accepting.{known}
 use Rattle.bus.proofs.Summary.{Good, Shape, keeps, puts, ends, breaks}
 use Rattle.bus.proofs.OneParty.{ruled}
 use Rattle.bus.proofs.HostCalls.{write-good, read-good, poll-good, request-good, drop-good}
-use Rattle.bus.proofs.HostCalls.{out-good, mark-good, status-good, nothing-good, register-good}
+use Rattle.bus.proofs.HostCalls.{out-good, mark-good, status-good, nothing-good, register-good, own-good}
+use Rattle.bus.proofs.HostCalls.{parallel-good}
 use Rattle.bus.proofs.Switches.{listen-good, talk-good}
 use Rattle.bus.proofs.ControlCalls.{take-good, standby-good, reset-good, clear-good, lines-good, drivers-good}
 use Rattle.bus.proofs.AcceptorStep.{accept-good}
@@ -59,6 +60,8 @@ accepted-good b I (call-of.Of p act-of.MarkEnd) = mark-good b I p
 accepted-good b I (call-of.Of p act-of.BusStatus) = status-good b I p
 accepted-good b I (call-of.Of p act-of.DoNothing) = nothing-good b I p
 accepted-good b I (call-of.Of p act-of.NoRegister) = register-good b I p
+accepted-good b I (call-of.Of p (act-of.OwnStatus on)) = own-good b I p on
+accepted-good b I (call-of.Of p act-of.ParallelPoll) = parallel-good b I p
 accepted-good b I call-of.Lines = λ _. lines-good b I
 accepted-good b I call-of.Drivers = λ _. drivers-good b I
 

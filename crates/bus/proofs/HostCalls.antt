@@ -1,5 +1,5 @@
 -- The host calls that change nothing that delivery sees: write, read, poll register, second request, drop, and those of
--- the chip's registers.
+-- the chip's registers and of the parallel poll.
 -- Assumes nothing.
 use mathlib.Core.Path.{_≡_, refl, sym, _∙_}
 use mathlib.Core.Bool.{Bool, true, false, cond}
@@ -7,7 +7,7 @@ use Prim.Native.Nat.{ℕ, _<_}
 use native.Mathlib.Omega.{arith}
 use Rattle.offer.specs.Offer.{isFull}
 use Rattle.party.specs.Parts.{withInput}
-use Rattle.parties.specs.Lines.{linesByte}
+use Rattle.parties.specs.Lines.{linesByte, pollByte}
 use Rattle.role.proofs.Logic.{no}
 use Rattle.bus.specs.Types.{Place, Party, Slot, Empty, Full, Bus, Act, Said}
 use Rattle.bus.specs.Types.ruling
@@ -18,6 +18,7 @@ use Rattle.effect.specs.Calls.{isAccepted, isOn}
 use Rattle.bus.specs.Record.{here, lines}
 use Rattle.effect.specs.Effects.{say, does, withStanding}
 use Rattle.host_calls.specs.HostCalls.{write, readOut, pollRegister, secondRequest, dropHeld, dataOut, markEnd}
+use Rattle.host_calls.specs.HostCalls.{ownStatus}
 use Rattle.bus.specs.Settling.{settle, follow}
 use Rattle.refusals.specs.Refusals.{ofSwitch, writeRefusal, own}
 use Rattle.bus.specs.Machine.{viewAt, refusal, accepted}
@@ -127,6 +128,17 @@ module _ (b : Bus) (I : Inv b) (p : Place) where
   pub register-good : isAccepted (refusal (lines b) b (call-of.Of p act-of.NoRegister)) ≡ true
       → Good b (call-of.Of p act-of.NoRegister) (accepted (lines b) b (call-of.Of p act-of.NoRegister))
   register-good ok = let r = known b p ruling.NoReg ok .1 in no (cc)
+
+  pub own-good : (on : ℕ) → isAccepted (refusal (lines b) b (call-of.Of p (act-of.OwnStatus on))) ≡ true
+      → Good b (call-of.Of p (act-of.OwnStatus on)) (accepted (lines b) b (call-of.Of p (act-of.OwnStatus on)))
+  own-good on ok = let q = ownStatus (isOn on) (viewAt p (lines b) b) .party in
+      aside-good (act-of.OwnStatus on) (say ev.None 0 false 0) q ok (λ j x. no (cc)) refl refl refl
+      (plainly (here b (p .0)) q refl refl refl refl (λ x. x)) refl
+
+  pub parallel-good : isAccepted (refusal (lines b) b (call-of.Of p act-of.ParallelPoll)) ≡ true
+      → Good b (call-of.Of p act-of.ParallelPoll) (accepted (lines b) b (call-of.Of p act-of.ParallelPoll))
+  parallel-good ok = aside-good act-of.ParallelPoll (say ev.Lines (pollByte (b .count) (b .parties)) false 0)
+      (here b (p .0)) ok (λ j x. no (cc)) refl refl refl (plain-same (here b (p .0))) refl
 
   pub drop-good : isAccepted (refusal (lines b) b (call-of.Of p act-of.Drop)) ≡ true
       → Good b (call-of.Of p act-of.Drop) (accepted (lines b) b (call-of.Of p act-of.Drop))

@@ -40,6 +40,7 @@ refused-leaves b c =
     followed-accepted (after.Pass j) e h = no (cc)
     followed-accepted after.Attend e h = no (cc)
     followed-accepted after.Clear e h = no (cc)
+    followed-accepted after.Poll e h = no (cc)
 
 -- the bus keeps the invariant
 pub reached : (xs : List Name) (s : Place) → buildExtended xs s .refusal ≡ ruling.Accepted → (cs : List Call)

@@ -9,8 +9,9 @@ use Rattle.party.specs.Driving.{isActive}
 use Rattle.party.specs.Sending.{isSource}
 use Rattle.party.specs.Settling.{attended, settled, cleared, clearDrops, changeControl}
 use Rattle.parties.specs.Places.{at, some, each, total}
+use Rattle.parties.specs.Lines.{pollByte}
 use Rattle.effect.specs.Stands.{stands}
-use Rattle.effect.specs.Effects.{say}
+use Rattle.effect.specs.Effects.{say, does}
 use Rattle.bus.specs.Types.{Party, Standing, Nothing, Byte, Bus, Answer, Said, Idle, Active, After, Effect}
 use Rattle.bus.specs.Types.ruling
 use Rattle.bus.specs.Types.ev
@@ -77,11 +78,18 @@ clearAll b i e = attend b
     (set (each (b .count) cleared (b .parties)) i (e .party))
     (e .standing)
 
+-- A parallel poll "answers the eight lines as a byte, .. event lines, END 0" (document 02, Q-8): those of the bus as
+-- the call finds it.
+abbrev pub poll : Bool → Bus → ℕ → Effect → Answer
+poll atn b i e = settle atn b i
+    (does (say ev.Lines (pollByte (b .count) (b .parties)) false 0) (e .party) (e .standing))
+
 abbrev pub followed : After → Bool → Bus → ℕ → Effect → Answer
 followed after.Settle atn b i e = settle atn b i e
 followed (after.Pass j) atn b i e = pass b i e (j .0)
 followed after.Attend atn b i e = attention b i e
 followed after.Clear atn b i e = clearAll b i e
+followed after.Poll atn b i e = poll atn b i e
 
 abbrev pub follow : Bool → Bus → ℕ → Effect → Answer
 follow atn b i e = followed (e .after) atn b i e

@@ -133,6 +133,20 @@ impl Bus {
         self.call(Call::Of(p, Act::SecondRequest(on)))
     }
 
+    // The party's own status, 0 or 1, which parallel polls ask for.
+    pub fn own_status(self, p: Place, on: u8) -> Answer
+        ensures { λ r. ⌜ r ≡ call self (Call.Of p (Act.OwnStatus on)) ⌝ }
+    {
+        self.call(Call::Of(p, Act::OwnStatus(on)))
+    }
+
+    // A parallel poll by party p: its eight lines are the answer's byte.
+    pub fn parallel_poll(self, p: Place) -> Answer
+        ensures { λ r. ⌜ r ≡ call self (Call.Of p Act.ParallelPoll) ⌝ }
+    {
+        self.call(Call::Of(p, Act::ParallelPoll))
+    }
+
     // What the chip's host reads of its party's register at an offset.
     pub fn read_register(self, p: Place, offset: u8) -> Answer
         ensures { λ r. ⌜ r ≡ accessed self p (Access.Read offset) ⌝ }

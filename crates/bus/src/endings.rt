@@ -1,7 +1,7 @@
 // How a call ends: refused; or its changes made, with attention where it is due, and every party settled.
 ghost use mathlib.Core.Path.{_≡_};
 ghost use Rattle.bus.specs.Record.{silent, refuse, accept};
-ghost use Rattle.bus.specs.Settling.{answered, attend, settle, pass, clearAll, follow};
+ghost use Rattle.bus.specs.Settling.{answered, attend, settle, pass, clearAll, poll, follow};
 use crate::Answer;
 use crate::Bus;
 use effect::After;
@@ -16,6 +16,7 @@ use parties::every::change_all;
 use parties::every::clear_drops;
 use parties::every::with_party;
 use parties::every::within;
+use parties::polling::poll_byte;
 use parties::sweeping::has_driver;
 use parties::sweeping::sweep_of;
 use party::Control;
@@ -159,6 +160,17 @@ impl Bus {
         self.attend(told, with_party(all, i, party), standing)
     }
 
+    // The lines of a parallel poll by party i are told, as the call found the parties, and every party settles.
+    fn poll(self, atn: bool, i: Place, e: Effect) -> Answer
+        ensures { λ r. ⌜ r ≡ poll atn self (i .0) e ⌝ }
+    {
+        let party = e.party;
+        let standing = e.standing;
+        let ps = self.parties;
+        let told = Said::say(Event::Lines, poll_byte(ps, self.count), false, 0);
+        self.settle(atn, i, Effect::does(told, party, standing))
+    }
+
     // What follows on the effect of a call of party i.
     pub fn follow(self, atn: bool, i: Place, e: Effect) -> Answer
         ensures { λ r. ⌜ r ≡ follow atn self (i .0) e ⌝ }
@@ -173,6 +185,7 @@ impl Bus {
             After::Pass(j) => self.pass(i, e, j),
             After::Attend => self.attend(said, with_party(ps, i, party), standing),
             After::Clear => self.clear_all(i, e),
+            After::Poll => self.poll(atn, i, e),
         }
     }
 }

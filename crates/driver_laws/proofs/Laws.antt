@@ -20,13 +20,12 @@ use Rattle.parties.specs.Lines.{mask, hasDriver}
 use Rattle.parties.proofs.Bits.{bits-lt, bit-at, bits-none, bit-alone, one-counted}
 use Rattle.parties.proofs.Sweeps.{within-le, line-on}
 use Rattle.effect.specs.Stands.{hasEnd, sendsEnd}
+use Rattle.effect.specs.Effects.{say, does}
 use Rattle.bus.specs.declared.Bus.{Bus}
-use Rattle.bus.specs.Types.{Party, Standing, Nothing, Byte}
-use Rattle.bus.specs.Types.ruling
-use Rattle.bus.specs.Types.call-of
-use Rattle.bus.specs.Record.{here, accept}
-use Rattle.bus.specs.Settling.{deserted}
-use Rattle.bus.specs.Machine as m
+use Rattle.bus.specs.Types.{Party, Standing, Nothing, Byte, Said}
+use Rattle.bus.specs.Types.ev
+use Rattle.bus.specs.Record.{here}
+use Rattle.bus.specs.Settling.{deserted, answered, settle}
 use Rattle.bus.specs.Drivers.{Line, Atn, Dav, Nrfd, Ndac, Eoi, Srq, drives, maskOf}
 use Rattle.bus.proofs.Invariant.{Inv, sentBy, atnOf, is-active, is-strs}
 use Rattle.bus.proofs.Theorem.{one-dav, one-atn}
@@ -91,21 +90,23 @@ on b I Srq = sym (line-on (b .count) (b .parties) (I .size) drivesSrq)
 pub on-where-driven : OnWhereDriven
 on-where-driven b led = on b (led-inv b led)
 
--- Every party has settled and the sender of what stands is a source, so settling once more changes nothing.
+-- Every party has settled and the sender of what stands is a source, so that a call which changes no party changes
+-- nothing.
 sender-stays : (b : Bus) → Inv b → (st : Standing) → b .standing ≡ st → deserted (atnOf b) (b .parties) st ≡ false
 sender-stays b I Nothing e = refl
 sender-stays b I (Byte s k v x) e = ap not (sender-is-source b I s k v x e)
 
-still : (b : Bus) → Inv b → m.call b call-of.Drivers ≡ accept b
-still b I =
+pub still : (b : Bus) → Inv b → (i : ℕ) (s : Said)
+    → settle (atnOf b) b i (does s (here b i) (b .standing)) ≡ answered false s b
+still b I i s =
     rw (
-      set-getD (b .parties) 0 idle,
+      set-getD (b .parties) i idle,
       sender-stays b I (b .standing) refl,
       each-still (b .count) (settled (atnOf b)) (b .parties) (I .still),
     ) refl
 
 pub changes-nothing : ChangesNothing
-changes-nothing b led = still b (led-inv b led)
+changes-nothing b led = still b (led-inv b led) 0 (say ev.None 0 false 0)
 
 pub one-driver : OneDriver
 one-driver b led =

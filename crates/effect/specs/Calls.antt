@@ -37,7 +37,7 @@ abbrev pub isAccepted : Refusal → Bool
 isAccepted r = eqb (refusalNumber r) 0
 
 -- "Operations, decimal": those that name a party. Document 02, Q-5: 13 second request. From 14 on they are what the
--- chip's registers ask for (Q-6), and no operation of a script.
+-- chip's registers ask for (Q-6) and the calls of the parallel poll (Q-8), and no operation of a script.
 abbrev pub actNumber : Act → ℕ
 actNumber act-of.Step = 1
 actNumber (act-of.Write v e) = 2
@@ -56,3 +56,27 @@ actNumber act-of.MarkEnd = 15
 actNumber act-of.BusStatus = 16
 actNumber act-of.DoNothing = 17
 actNumber act-of.NoRegister = 18
+actNumber (act-of.OwnStatus on) = 19
+actNumber act-of.ParallelPoll = 20
+
+-- The END or the switch of an act as it comes, and 0 for acts that have none.
+abbrev pub switchOf : Act → ℕ
+switchOf act-of.Step = 0
+switchOf (act-of.Write x e) = e
+switchOf act-of.Read = 0
+switchOf (act-of.PollRegister x) = 0
+switchOf (act-of.ListenOnly on) = on
+switchOf (act-of.TalkOnly on) = on
+switchOf act-of.TakeControl = 0
+switchOf act-of.GoToStandby = 0
+switchOf act-of.InterfaceClear = 0
+switchOf act-of.Reset = 0
+switchOf act-of.Drop = 0
+switchOf (act-of.SecondRequest on) = on
+switchOf (act-of.DataOut x) = 0
+switchOf act-of.MarkEnd = 0
+switchOf act-of.BusStatus = 0
+switchOf act-of.DoNothing = 0
+switchOf act-of.NoRegister = 0
+switchOf (act-of.OwnStatus on) = on
+switchOf act-of.ParallelPoll = 0

@@ -58,6 +58,9 @@ pub enum Act {
     BusStatus,
     DoNothing,
     NoRegister,
+    // The party's own status, and the parallel poll that asks for it.
+    OwnStatus(u8),
+    ParallelPoll,
 }
 
 // The operations other than build: those of a party, and those of the whole bus.
@@ -88,12 +91,14 @@ pub struct Said {
     pub dropped: u8,
 }
 
-// What follows on a call's own changes: settling alone; control that goes on to a party; attention; an interface clear.
+// What follows on a call's own changes: settling alone; control that goes on to a party; attention; an interface clear;
+// a parallel poll, whose lines are told of all parties.
 pub enum After {
     Settle,
     Pass(Place),
     Attend,
     Clear,
+    Poll,
 }
 
 // What a host call does: what it says, what follows, and its party. None of them changes what stands.

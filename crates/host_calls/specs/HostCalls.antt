@@ -4,7 +4,7 @@
 use Prim.Native.Nat.{ℕ}
 use mathlib.Core.Bool.{Bool, true, false, cond}
 use Rattle.party.specs.Parts.{heldBytes, withRole, withAcceptor, withHeld, withInput, withRequest}
-use Rattle.party.specs.Parts.{withLatches}
+use Rattle.party.specs.Parts.{withLatches, withFeoi, withIst}
 use Rattle.role.specs.Roles.{withFlags}
 use Rattle.service.specs.Service.{withSaved, withRsv2}
 use Rattle.party.specs.Driving.{isActive}
@@ -22,7 +22,7 @@ write x e v = quiet 0 (withHeld (Full x e) (v .party))
 
 -- The party with the mark for its next byte on or off.
 abbrev pub markedEnd : Bool → Party → Party
-markedEnd on p = withLatches (record { feoi = on }) p
+markedEnd on p = withLatches (withFeoi on (p .latches)) p
 
 -- "feoi marks the next byte whose write through offset 7 is accepted" (document 02, Q-6): that write, with END from the
 -- mark, uses it up.
@@ -31,6 +31,10 @@ dataOut x v = let p = v .party in quiet 0 (markedEnd false (withHeld (Full x (p 
 
 abbrev pub markEnd : View → Outcome
 markEnd v = quiet 0 (markedEnd true (v .party))
+
+-- "The host sets each party's own status to 0 or 1" (document 02, Q-8).
+abbrev pub ownStatus : Bool → View → Outcome
+ownStatus on v = let p = v .party in quiet 0 (withLatches (withIst on (p .latches)) p)
 
 -- "Read data: gives data-in, empties it."
 abbrev pub readOut : Slot → Party → Outcome
@@ -99,3 +103,7 @@ clear v = then after.Clear (quiet 0 (changeControl Active (cleared (v .party))))
 -- "The event lines carries the lines answer with END 0".
 abbrev pub tell : View → Outcome
 tell v = record { said = say ev.Lines (linesByte (v .lines)) false 0; after = after.Settle; party = v .party }
+
+-- "A poll by the active party": which lines are on is said when every party has answered.
+abbrev pub parallelPoll : View → Outcome
+parallelPoll v = then after.Poll (quiet 0 (v .party))

@@ -2,7 +2,7 @@
 ghost use mathlib.Core.Path.{_≡_};
 ghost use Rattle.host_calls.specs.HostCalls.{write, read, requested, pollRegister, secondRequest, listenAcceptor};
 ghost use Rattle.host_calls.specs.HostCalls.{listenOnly, talkOnly, controlled, dropHeld, resetAcceptor, reset};
-ghost use Rattle.host_calls.specs.HostCalls.{clear, tell, markedEnd, dataOut, markEnd};
+ghost use Rattle.host_calls.specs.HostCalls.{clear, tell, markedEnd, dataOut, markEnd, ownStatus, parallelPoll};
 use effect::After;
 use effect::Outcome;
 use effect::Said;
@@ -12,7 +12,6 @@ use offer::Slot;
 use parties::Lines;
 use party::Acceptor;
 use party::Control;
-use party::Latches;
 use party::Party;
 use service::Request;
 
@@ -27,7 +26,8 @@ pub fn write(byte: u8, end: bool, v: View) -> Outcome
 fn marked_end(on: bool, p: Party) -> Party
     ensures { λ r. ⌜ r ≡ markedEnd on p ⌝ }
 {
-    p.with_latches(Latches { feoi: on })
+    let latches = p.latches;
+    p.with_latches(latches.with_feoi(on))
 }
 
 // The byte with END from the mark, which is used up.
@@ -47,6 +47,15 @@ pub fn mark_end(v: View) -> Outcome
 {
     let p = v.party;
     Outcome::quiet(0, marked_end(true, p))
+}
+
+// The own status, for parallel polls.
+pub fn own_status(on: bool, v: View) -> Outcome
+    ensures { λ r. ⌜ r ≡ ownStatus on v ⌝ }
+{
+    let p = v.party;
+    let latches = p.latches;
+    Outcome::quiet(0, p.with_latches(latches.with_ist(on)))
 }
 
 pub fn read(v: View) -> Outcome
@@ -188,4 +197,12 @@ pub fn tell(v: View) -> Outcome
         after: After::Settle,
         party,
     }
+}
+
+// A parallel poll. Its lines are told when every party has answered.
+pub fn parallel_poll(v: View) -> Outcome
+    ensures { λ r. ⌜ r ≡ parallelPoll v ⌝ }
+{
+    let p = v.party;
+    Outcome::quiet(0, p).then(After::Poll)
 }

@@ -9,15 +9,16 @@ use Rattle.party.specs.Parts.{one}
 use Rattle.offer.specs.Offer.{isFull}
 use Rattle.effect.specs.Stands.{hasEnd}
 use Rattle.image.specs.Types.{Secondary, Absent, Given, Mark, Unmarked, TalkPrimary, ListenPrimary, Party}
+use Rattle.image.specs.Types.{Configuring, Response, Unset, Set}
 use Rattle.image.specs.Types.{Control, Idle, Standby, Active, Source, Sids, Sgns, Sdys, Strs, Acceptor, Aids}
 use Rattle.image.specs.Types.{Anrs, Acrs, Acds, Awns}
 use Rattle.image.specs.Types.{Service, Nprs, Srqs, Aprs, Slot, Empty, Full, Command, Data, Status, Standing}
 use Rattle.image.specs.Types.{Nothing, Byte, Bus}
 use Rattle.image.specs.Image.{markNumber, hasSecondary, secondaryNumber, controlNumber, sourceNumber}
 use Rattle.image.specs.Image.{acceptorNumber, serviceNumber, slotValue, slotEnd, standingTag, standingSender}
-use Rattle.image.specs.Image.{standingValue, rowOf, lastRow, rowsOf}
+use Rattle.image.specs.Image.{standingValue, responseTag, responseLine, rowOf, lastRow, rowsOf}
 use Rattle.image.specs.Image.{flag, markOf, secondaryOf, controlOf, sourceOf, acceptorOf, serviceOf, slotOf}
-use Rattle.image.specs.Image.{standingOf, partyOf, busOf, ReadBack}
+use Rattle.image.specs.Image.{standingOf, responseOf, partyOf, busOf, ReadBack}
 
 flag-kept : (x : Bool) → flag (one x) ≡ x
 flag-kept true = refl
@@ -27,6 +28,7 @@ mark-kept : (x : Mark) → markOf (markNumber x) ≡ x
 mark-kept Unmarked = refl
 mark-kept TalkPrimary = refl
 mark-kept ListenPrimary = refl
+mark-kept Configuring = refl
 
 secondary-kept : (x : Secondary) → secondaryOf (one (hasSecondary x)) (secondaryNumber x) ≡ x
 secondary-kept Absent = refl
@@ -59,6 +61,11 @@ slot-kept : (x : Slot) → slotOf (one (isFull x)) (slotValue x) (one (slotEnd x
 slot-kept Empty = refl
 slot-kept (Full v e) = ap (Full v) (flag-kept e)
 
+response-kept : (x : Response) → responseOf (responseTag x) (responseLine x) ≡ x
+response-kept Unset = refl
+response-kept (Set true line) = refl
+response-kept (Set false line) = refl
+
 standing-kept : (x : Standing) → standingOf (standingTag x) (standingSender x) (standingValue x) (one (hasEnd x)) ≡ x
 standing-kept Nothing = refl
 standing-kept (Byte s Command v e) = ap (Byte s Command v) (flag-kept e)
@@ -66,7 +73,12 @@ standing-kept (Byte s Data v e) = ap (Byte s Data v) (flag-kept e)
 standing-kept (Byte s Status v e) = ap (Byte s Status v) (flag-kept e)
 
 party-kept : (p : Party) → partyOf (rowOf p) ≡ p
-party-kept p = rw (slot-kept (p .held), slot-kept (p .input), secondary-kept (p .role .name .secondary))
+party-kept p = rw (
+  slot-kept (p .held),
+  slot-kept (p .input),
+  secondary-kept (p .role .name .secondary),
+  response-kept (p .role .response),
+)
     (simp (flag-kept, mark-kept, control-kept, source-kept, acceptor-kept, service-kept))
 
 parties-kept : (ps : List Party) → map partyOf (map rowOf ps) ≡ ps

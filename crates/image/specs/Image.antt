@@ -14,6 +14,7 @@ use Rattle.offer.specs.Offer.{isFull}
 use Rattle.parties.specs.Places.{place}
 use Rattle.effect.specs.Stands.{hasEnd}
 use Rattle.image.specs.Types.{Secondary, Absent, Given, Mark, Unmarked, TalkPrimary, ListenPrimary, Role, Party}
+use Rattle.image.specs.Types.{Configuring, Response, Unset, Set}
 use Rattle.image.specs.Types.{Control, Idle, Standby, Active, Source, Sids, Sgns, Sdys, Strs, Acceptor, Aids}
 use Rattle.image.specs.Types.{Anrs, Acrs, Acds, Awns}
 use Rattle.image.specs.Types.{Service, Nprs, Srqs, Aprs, Slot, Empty, Full, Kind, Command, Data, Status, Standing}
@@ -24,6 +25,7 @@ abbrev pub markNumber : Mark → ℕ
 markNumber Unmarked = 0
 markNumber TalkPrimary = 1
 markNumber ListenPrimary = 2
+markNumber Configuring = 3
 
 abbrev pub controlNumber : Control → ℕ
 controlNumber Idle = 0
@@ -85,6 +87,15 @@ abbrev pub standingValue : Standing → ℕ
 standingValue Nothing = 0
 standingValue (Byte s k v e) = v
 
+-- A response is two bytes: 1 or 2, by its sense, and its line; zeros where there is none.
+abbrev pub responseTag : Response → ℕ
+responseTag Unset = 0
+responseTag (Set sense line) = cond sense 2 1
+
+abbrev pub responseLine : Response → ℕ
+responseLine Unset = 0
+responseLine (Set sense line) = line
+
 -- The row of a party.
 abbrev pub rowOf : Party → List ℕ
 rowOf p =
@@ -109,7 +120,10 @@ rowOf p =
     ∷ markNumber (p .role .mark)
     ∷ one (p .request .rsv2)
     ∷ one (p .latches .feoi)
-    ∷ 0 ∷ 0 ∷ 0 ∷ []
+    ∷ responseTag (p .role .response)
+    ∷ responseLine (p .role .response)
+    ∷ one (p .latches .ist)
+    ∷ []
 
 -- The last row: the number of parties, the system party, and what stands.
 abbrev pub lastRow : Bus → List ℕ
@@ -131,7 +145,7 @@ flag n = eqb n 1
 
 -- The state of a number; a number that no state has is read as the first state.
 abbrev pub markOf : ℕ → Mark
-markOf n = cond (eqb n 1) TalkPrimary (cond (eqb n 2) ListenPrimary Unmarked)
+markOf n = cond (eqb n 1) TalkPrimary (cond (eqb n 2) ListenPrimary (cond (eqb n 3) Configuring Unmarked))
 
 abbrev pub controlOf : ℕ → Control
 controlOf n = cond (eqb n 1) Standby (cond (eqb n 2) Active Idle)
@@ -161,6 +175,10 @@ abbrev pub standingOf : ℕ → ℕ → ℕ → ℕ → Standing
 standingOf tag s v e = cond (eqb tag 1) (byteOf Command s v e)
     (cond (eqb tag 2) (byteOf Data s v e) (cond (eqb tag 3) (byteOf Status s v e) Nothing))
 
+-- There is a response if its number has a sense.
+abbrev pub responseOf : ℕ → ℕ → Response
+responseOf tag line = cond (eqb tag 1) (Set false line) (cond (eqb tag 2) (Set true line) Unset)
+
 abbrev pub byteAt : List ℕ → ℕ → ℕ
 byteAt row k = getD row k 0
 
@@ -171,6 +189,7 @@ roleOf r = record {
   listen = flag (byteAt r 2);
   poll = flag (byteAt r 3);
   mark = markOf (byteAt r 18);
+  response = responseOf (byteAt r 21) (byteAt r 22);
 }
 
 abbrev pub partyOf : List ℕ → Party
@@ -187,7 +206,7 @@ partyOf r = record {
     rsv2 = flag (byteAt r 19);
     service = serviceOf (byteAt r 15);
   };
-  latches = record { feoi = flag (byteAt r 20) };
+  latches = record { feoi = flag (byteAt r 20); ist = flag (byteAt r 23) };
 }
 
 -- The bus with these parties, and the rest from the last row.

@@ -3,7 +3,8 @@ ghost use mathlib.Core.Path.{_≡_};
 ghost use mathlib.Core.List.{map};
 ghost use lib.ListN.{take};
 ghost use Rattle.image.specs.Image.{flag, markOf, secondaryOf, roleOf, controlOf, sourceOf, acceptorOf};
-ghost use Rattle.image.specs.Image.{serviceOf, slotOf, byteOf, standingOf, partyOf, busWith, busOf};
+ghost use Rattle.image.specs.Image.{serviceOf, slotOf, byteOf, standingOf, responseOf, partyOf, busWith};
+ghost use Rattle.image.specs.Image.{busOf};
 use bus::Bus;
 use effect::Standing;
 use message::Address;
@@ -19,6 +20,7 @@ use party::Party;
 use party::Place;
 use party::Source;
 use role::Mark;
+use role::Response;
 use role::Role;
 use service::Request;
 use service::Service;
@@ -35,6 +37,7 @@ fn mark_of(n: u8) -> Mark
     match n {
         1 => Mark::TalkPrimary,
         2 => Mark::ListenPrimary,
+        3 => Mark::Configuring,
         _ => Mark::Unmarked,
     }
 }
@@ -122,6 +125,16 @@ fn standing_of(tag: u8, sender: u8, value: u8, end: u8) -> Standing
     }
 }
 
+fn response_of(tag: u8, line: u8) -> Response
+    ensures { λ r. ⌜ r ≡ responseOf tag line ⌝ }
+{
+    match tag {
+        1 => Response::Set { sense: false, line },
+        2 => Response::Set { sense: true, line },
+        _ => Response::Unset,
+    }
+}
+
 fn role_of(row: [u8; 24]) -> Role
     ensures { λ r. ⌜ r ≡ roleOf row ⌝ }
 {
@@ -135,6 +148,7 @@ fn role_of(row: [u8; 24]) -> Role
         listen: flag(row[2]),
         poll: flag(row[3]),
         mark: mark_of(row[18]),
+        response: response_of(row[21], row[22]),
     }
 }
 
@@ -158,6 +172,7 @@ fn party_of(row: [u8; 24]) -> Party
         request,
         latches: Latches {
             feoi: flag(row[20]),
+            ist: flag(row[23]),
         },
     }
 }

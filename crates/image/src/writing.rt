@@ -2,7 +2,8 @@
 ghost use mathlib.Core.Path.{_≡_};
 ghost use Rattle.image.specs.Image.{markNumber, hasSecondary, secondaryNumber, controlNumber, sourceNumber};
 ghost use Rattle.image.specs.Image.{acceptorNumber, serviceNumber, kindNumber, slotValue, slotEnd};
-ghost use Rattle.image.specs.Image.{standingTag, standingSender, standingValue, rowOf, lastRow, rowsOf};
+ghost use Rattle.image.specs.Image.{standingTag, standingSender, standingValue, responseTag, responseLine};
+ghost use Rattle.image.specs.Image.{rowOf, lastRow, rowsOf};
 use bus::Bus;
 use effect::Standing;
 use names::Name;
@@ -15,6 +16,7 @@ use party::Party;
 use party::Source;
 use party::clearing::one;
 use role::Mark;
+use role::Response;
 use service::Service;
 
 fn mark_number(m: Mark) -> u8
@@ -24,6 +26,7 @@ fn mark_number(m: Mark) -> u8
         Mark::Unmarked => 0,
         Mark::TalkPrimary => 1,
         Mark::ListenPrimary => 2,
+        Mark::Configuring => 3,
     }
 }
 
@@ -160,12 +163,31 @@ fn standing_value(s: Standing) -> u8
     }
 }
 
+fn response_tag(r: Response) -> u8
+    ensures { λ n. ⌜ n ≡ responseTag r ⌝ }
+{
+    match r {
+        Response::Unset => 0,
+        Response::Set { sense, line: _ } => if sense { 2 } else { 1 },
+    }
+}
+
+fn response_line(r: Response) -> u8
+    ensures { λ n. ⌜ n ≡ responseLine r ⌝ }
+{
+    match r {
+        Response::Unset => 0,
+        Response::Set { sense: _, line } => line,
+    }
+}
+
 fn row_of(p: Party) -> [u8; 24]
     ensures { λ r. ⌜ r ≡ rowOf p ⌝ }
 {
     let role = p.role;
     let name = role.name;
     let mark = role.mark;
+    let response = role.response;
     let control = p.control;
     let source = p.source;
     let acceptor = p.acceptor;
@@ -195,9 +217,9 @@ fn row_of(p: Party) -> [u8; 24]
         mark_number(mark),
         one(request.rsv2),
         one(p.latches.feoi),
-        0,
-        0,
-        0,
+        response_tag(response),
+        response_line(response),
+        one(p.latches.ist),
     ]
 }
 

@@ -14,6 +14,7 @@ use Rattle.role.proofs.Logic.{test}
 use Rattle.parties.specs.Places.{place}
 use Rattle.registers.specs.Registers.{standsFor}
 use Rattle.effect.specs.declared.Call.the-variants as call-of
+use Rattle.effect.specs.declared.Act.the-variants as act-of
 use Rattle.bus.proofs.Reached.{refused-leaves}
 use Rattle.effect.specs.declared.Refusal.{Refusal}
 use Rattle.effect.specs.Calls.{isAccepted, refusalNumber}
@@ -23,7 +24,8 @@ use Rattle.image.specs.Image.{rowsOf, busOf}
 use Rattle.image.proofs.Kept.{read-back}
 use Rattle.meskvorn.specs.Packing.{packed}
 use Rattle.meskvorn.specs.Host.{turnsGiven, rowsAfter, Replied, Built, Gave, maskList, countList, Counted}
-use Rattle.meskvorn.specs.Hosted.{Op, by-number, by-register, answerOf, Asked, call, run, Reply}
+use Rattle.meskvorn.specs.Hosted.{Op, by-number, by-register, own-status, parallel-poll, answerOf, Asked}
+use Rattle.meskvorn.specs.Hosted.{call, run, Reply}
 use Rattle.meskvorn.specs.Hosted.{answer, turns, drivers-of-lines, driven, Handed, none, called, ran, asked, Same}
 use Rattle.meskvorn.specs.Hosted.{Hosted, HostedFromBuild}
 use Rattle.meskvorn.proofs.Sizes.{call-size, answer-size, turns-size, drivers-size, build-size}
@@ -86,10 +88,14 @@ handed rows (drivers-of-lines ∷ xs) =
 op-size : (b : Bus) (o : Op) → length (b .parties) ≡ 15 → length (answerOf b o .bus .parties) ≡ 15
 op-size b (by-number op party value extra) z = answer-size b op party value extra z
 op-size b (by-register party a) z = call-size b (call-of.Of (place party) (standsFor a)) z
+op-size b (own-status party value) z = call-size b (call-of.Of (place party) (act-of.OwnStatus value)) z
+op-size b (parallel-poll party) z = call-size b (call-of.Of (place party) act-of.ParallelPoll) z
 
 op-leaves : (b : Bus) (o : Op) → isAccepted (answerOf b o .refusal) ≡ false → answerOf b o .bus ≡ b
 op-leaves b (by-number op party value extra) = answer-leaves b op party value extra
 op-leaves b (by-register party a) = refused-leaves b (call-of.Of (place party) (standsFor a))
+op-leaves b (own-status party value) = refused-leaves b (call-of.Of (place party) (act-of.OwnStatus value))
+op-leaves b (parallel-poll party) = refused-leaves b (call-of.Of (place party) act-of.ParallelPoll)
 
 -- By the list: the rows are those of a bus before each.
 go : {rows : List (List ℕ)} {xs : List Asked} {rs : List Reply} {last : List (List ℕ)} → Handed rows xs rs last

@@ -54,6 +54,7 @@ followed-size after.Settle atn b i e h = simp (length-each, length-set) h
 followed-size (after.Pass j) atn b i e h = simp (length-each, length-set) h
 followed-size after.Attend atn b i e h = simp (length-each, length-set) h
 followed-size after.Clear atn b i e h = simp (length-each, length-set) h
+followed-size after.Poll atn b i e h = simp (length-each, length-set) h
 
 -- an accepted call, and one that may be refused
 pub call-size : (b : Bus) (c : Call) → Full b → Full (call b c .bus)

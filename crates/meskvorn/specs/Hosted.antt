@@ -1,6 +1,7 @@
--- A list of operations, accesses to registers, runs and questions who drives the lines, handed one by one to
--- meskvorn_call, meskvorn_read_register, meskvorn_write_register, meskvorn_turns and meskvorn_drivers with the rows
--- that the last one left: the same as the machine does with its bus.
+-- A list of operations, accesses to registers, own statuses, parallel polls, runs and questions who drives the lines,
+-- handed one by one to meskvorn_call, meskvorn_read_register, meskvorn_write_register, meskvorn_own_status,
+-- meskvorn_parallel_poll, meskvorn_turns and meskvorn_drivers with the rows that the last one left: the same as the
+-- machine does with its bus.
 -- Assumes nothing.
 use Prim.Native.Nat.{ℕ}
 use mathlib.Core.Path.{_≡_}
@@ -13,22 +14,29 @@ use Rattle.bus.specs.declared.Bus.{Bus}
 use Rattle.bus.specs.declared.Answer.{Answer}
 use Rattle.bus.specs.Record.{buildExtended}
 use Rattle.bus.specs.Drivers.{drivers}
+use Rattle.effect.specs.declared.Call.the-variants as call-of
+use Rattle.effect.specs.declared.Act.the-variants as act-of
 use Rattle.bus.specs.Machine.{accessed}
+use Rattle.bus.specs.Machine as m
 use Rattle.parties.specs.Places.{place}
 use Rattle.effect.specs.Calls.{refusalNumber}
 use Rattle.image.specs.Image.{rowsOf, busOf}
 use Rattle.meskvorn.specs.Packing.{packed}
 use Rattle.meskvorn.specs.Host.{answerByNumber, turnsGiven, Replied, Built, Gave, maskList, countList, Counted}
 
--- An operation by the four numbers that meskvorn_call takes (operation, party, value, extra), or an access to a
--- register of a party.
+-- An operation by the four numbers that meskvorn_call takes (operation, party, value, extra), an access to a register
+-- of a party, a party's own status, or a parallel poll by one.
 pub data Op : Type 0 where
   by-number : ℕ → ℕ → ℕ → ℕ → Op
   by-register : ℕ → Access → Op
+  own-status : ℕ → ℕ → Op
+  parallel-poll : ℕ → Op
 
 abbrev pub answerOf : Bus → Op → Answer
 answerOf b (by-number op party value extra) = answerByNumber b op party value extra
 answerOf b (by-register party a) = accessed b (place party) a
+answerOf b (own-status party value) = m.call b (call-of.Of (place party) (act-of.OwnStatus value))
+answerOf b (parallel-poll party) = m.call b (call-of.Of (place party) act-of.ParallelPoll)
 
 -- What a host asks for: an operation, a run of so many turns, or who drives the lines; and what it is given: an
 -- answer's number, a refusal's with the counts of the places, or an answer's with the masks and the counts of the

@@ -2,7 +2,9 @@
 // some bus; a refused call leaves it byte for byte.
 ghost use Rattle.registers.specs.declared.Access.the-variants as access;
 ghost use Rattle.parties.specs.Places.{place};
-ghost use Rattle.bus.specs.Machine.{accessed};
+ghost use Rattle.effect.specs.declared.Call.the-variants as call-of;
+ghost use Rattle.effect.specs.declared.Act.the-variants as act-of;
+ghost use Rattle.bus.specs.Machine.{call, accessed};
 ghost use Rattle.image.specs.Image.{busOf};
 ghost use Rattle.meskvorn.specs.Host.{answerByNumber, Replied};
 use crate::calls::answer_by_number;
@@ -75,5 +77,33 @@ pub extern "C" fn meskvorn_write_register(
 {
     let rows = *bus;
     let a = bus_of(rows).write_register(Place(party), offset, value);
+    reply(bus, a)
+}
+
+// A party's own status, 0 or 1.
+#[no_mangle]
+pub extern "C" fn meskvorn_own_status(bus: &mut [[u8; 24]; 16], party: u8, value: u8) -> u64
+    ensures { λ r.
+        ⌜
+        Replied (call (busOf (now (bus .entry))) (call-of.Of (place party) (act-of.OwnStatus value)))
+        (now (bus .entry)) (now (bus .exit)) r
+        ⌝ }
+{
+    let rows = *bus;
+    let a = bus_of(rows).own_status(Place(party), value);
+    reply(bus, a)
+}
+
+// A parallel poll by a party.
+#[no_mangle]
+pub extern "C" fn meskvorn_parallel_poll(bus: &mut [[u8; 24]; 16], party: u8) -> u64
+    ensures { λ r.
+        ⌜
+        Replied (call (busOf (now (bus .entry))) (call-of.Of (place party) act-of.ParallelPoll))
+        (now (bus .entry)) (now (bus .exit)) r
+        ⌝ }
+{
+    let rows = *bus;
+    let a = bus_of(rows).parallel_poll(Place(party));
     reply(bus, a)
 }

@@ -7,7 +7,7 @@ use Rattle.message.specs.declared.Address.{Address}
 use Rattle.message.specs.declared.SecondaryAddress.{SecondaryAddress}
 use Rattle.message.specs.declared.Meaning.{Meaning}
 use Rattle.message.specs.declared.Meaning.the-variants.{Other, Listen, Unlisten, Talk, Untalk, Sdc, Get, Tct, Dcl}
-use Rattle.message.specs.declared.Meaning.the-variants.{Spe, Spd, Second, Neither}
+use Rattle.message.specs.declared.Meaning.the-variants.{Spe, Spd, Second, Neither, Ppc, Ppu}
 
 abbrev pub address : ℕ → Address
 address a = record { 0 = a }
@@ -15,15 +15,17 @@ address a = record { 0 = a }
 abbrev pub secondary : ℕ → SecondaryAddress
 secondary s = record { 0 = s }
 
--- "04 SDC, 08 GET, 09 TCT, 14 DCL, 18 SPE, 19 SPD; all else no meaning"
+-- "04 SDC, 08 GET, 09 TCT, 14 DCL, 18 SPE, 19 SPD; all else no meaning". Document 02, Q-8: PPC (05), PPU (15).
 unfoldable pub named : ℕ → Meaning
 named n =
     cond (eqb n 0x04) Sdc
+    (cond (eqb n 0x05) Ppc
     (cond (eqb n 0x08) Get
     (cond (eqb n 0x09) Tct
     (cond (eqb n 0x14) Dcl
+    (cond (eqb n 0x15) Ppu
     (cond (eqb n 0x18) Spe
-    (cond (eqb n 0x19) Spd Other)))))
+    (cond (eqb n 0x19) Spd Other)))))))
 
 -- "20+a listen address, 3F UNL, 40+a talk address, 5F UNT (a in 0..1E)". Document 02, Q-3: "60 to 7E secondaries, 7F
 -- neither".
@@ -55,6 +57,8 @@ codeOf Spe = 9
 codeOf Spd = 10
 codeOf (Second s) = 11
 codeOf Neither = 12
+codeOf Ppc = 13
+codeOf Ppu = 14
 
 -- The meaning of a code, with the number that the byte carries.
 unfoldable pub decode : ℕ → ℕ → Meaning
@@ -70,4 +74,6 @@ decode c n =
     (cond (eqb c 9) Spe
     (cond (eqb c 10) Spd
     (cond (eqb c 11) (Second (secondary n))
-    (cond (eqb c 12) Neither Other)))))))))))
+    (cond (eqb c 12) Neither
+    (cond (eqb c 13) Ppc
+    (cond (eqb c 14) Ppu Other)))))))))))))

@@ -27,6 +27,9 @@ pub enum Meaning {
     Second(SecondaryAddress),
     // 7F, which is neither a primary command nor a secondary.
     Neither,
+    // Parallel poll configure and unconfigure, primary commands too.
+    Ppc,
+    Ppu,
 }
 
 // The table's entry of a byte.
@@ -54,6 +57,8 @@ fn decode(code: u8, number: u8) -> Meaning
         10 => Meaning::Spd,
         11 => Meaning::Second(SecondaryAddress(number)),
         12 => Meaning::Neither,
+        13 => Meaning::Ppc,
+        14 => Meaning::Ppu,
         _ => Meaning::Other,
     }
 }

@@ -1,13 +1,13 @@
 // Document 01's table of 256 meanings: entry b is the code of what byte b means (specs/Meaning.antt, `codeOf`).
 // 0 a primary command without a meaning, 1 listen address, 2 UNL, 3 talk address, 4 UNT, 5 SDC, 6 GET, 7 TCT, 8 DCL,
-// 9 SPE, 10 SPD, 11 secondary address, 12 neither primary nor secondary.
+// 9 SPE, 10 SPD, 11 secondary address, 12 neither primary nor secondary, 13 PPC, 14 PPU.
 pub const CODES: [u8; 256] = [
     0,
     0,
     0,
     0,
     5, // 04 SDC
-    0,
+    13, // 05 PPC
     0,
     0,
     6, // 08 GET
@@ -23,7 +23,7 @@ pub const CODES: [u8; 256] = [
     0,
     0,
     8, // 14 DCL
-    0,
+    14, // 15 PPU
     0,
     0,
     9, // 18 SPE
@@ -135,7 +135,7 @@ pub const CODES: [u8; 256] = [
     0,
     0,
     5, // 84 SDC
-    0,
+    13, // 85 PPC
     0,
     0,
     6, // 88 GET
@@ -151,7 +151,7 @@ pub const CODES: [u8; 256] = [
     0,
     0,
     8, // 94 DCL
-    0,
+    14, // 95 PPU
     0,
     0,
     9, // 98 SPE

@@ -176,6 +176,19 @@ down n k f m l s e =
     let z : n - k ≡ suc (n - suc k) = omega arith in
     rw (z, e) (omega arith)
 
+-- The laws of such a loop, before each turn of which the places from k on have been seen: at first none has; the place
+-- below comes in; at last all have.
+pub seen-none : (n k : ℕ) (f : ℕ → Bool) → k ≡ n → 0 ≡ bits k (n - k) f
+seen-none n k f e = let z : n - k ≡ 0 = omega arith in rw z refl
+
+pub seen-down : (n k : ℕ) (f : ℕ → Bool) {m : ℕ} → 0 < k → k ≤ n → n ≤ 15 → m ≡ bits k (n - k) f
+    → pushed m (f (k - 1)) ≡ bits (k - 1) (n - (k - 1)) f
+seen-down n k f {m = m} h l v e = let z : suc (k - 1) ≡ k = omega arith in
+    down n (k - 1) f m (omega arith) v (e ∙ ap (λ (x : ℕ). bits x (n - x) f) (sym z))
+
+pub seen-all : (n k : ℕ) (f : ℕ → Bool) → k ≤ 0 → bits k (n - k) f ≡ mask n f
+seen-all n k f l = let z : n - k ≡ n = omega arith in let y : k ≡ 0 = omega arith in rw (z, y) refl
+
 pub push-or : (m : ℕ) (b : Bool) → bitOr (m * 2 % 65536) (boolByte b) ≡ pushed m b
 push-or m b = let e : m * 2 % 65536 ≡ m % 32768 * 2 ^ 1 = omega arith in rw e (go b)
   where

@@ -3,7 +3,7 @@
 use mathlib.Core.Path.{_≡_, refl, sym, ap, _∙_}
 use mathlib.Core.Bool.{Bool, not, _&&_}
 use mathlib.Core.List.{List}
-use Prim.Native.Nat.{ℕ, suc, _-_, _≤_, _<_}
+use Prim.Native.Nat.{ℕ, _-_, _≤_, _<_}
 use native.Mathlib.Omega.{arith}
 use lib.ListN.{length, set, length-set}
 use lib.Seq.{getD-set-same, getD-set-other}
@@ -17,7 +17,7 @@ use Rattle.parties.specs.Places.{at, some, talks, otherTalker, within}
 use Rattle.parties.specs.Lines.{scanOf, bits, mask, hasDriver}
 use Rattle.parties.specs.Sweeping.{sweepOf, pushed, sweptBy, without, firstOf, told}
 use Rattle.parties.proofs.Loops.{within-same, all-15, some-all, other-all}
-use Rattle.parties.proofs.Bits.{down, some-mask, first-mask, without-mask}
+use Rattle.parties.proofs.Bits.{seen-down, some-mask, first-mask, without-mask}
 
 pub within-le : (n : ℕ) → within n ≤ 15
 within-le n = cond-elim (λ (x : ℕ). x ≤ 15) (ltb n 15) (λ e. let l = ltb-true n 15 e in omega arith) (λ _. omega arith)
@@ -36,21 +36,18 @@ sweptFrom k n ps = record {
 abbrev none : Sweep
 none = record { atn = 0; dav = 0; nrfd = 0; ndac = 0; srq = 0; talk = 0 }
 
--- The laws of the loop. At first no place has been seen; the party at place k comes in below those from k + 1 on; at
--- last all places have been.
+-- The laws of the loop: those of each mask.
 pub swept-none : (n k : ℕ) (ps : List Party) → k ≡ n → none ≡ sweptFrom k n ps
 swept-none n k ps e = let z : n - k ≡ 0 = omega arith in rw z refl
 
 pub swept-down : (n k : ℕ) (ps : List Party) {s r : Sweep} → 0 < k → k ≤ n → n ≤ 15 → s ≡ sweptFrom k n ps
     → r ≡ sweptBy s (at ps (k - 1)) → r ≡ sweptFrom (k - 1) n ps
-swept-down n k ps h l v e d = let z : suc (k - 1) ≡ k = omega arith in
-    d ∙ ap (λ (x : Sweep). sweptBy x (at ps (k - 1))) (e ∙ ap (λ (x : ℕ). sweptFrom x n ps) (sym z))
+swept-down n k ps h l v e d = d ∙ ap (λ (x : Sweep). sweptBy x (at ps (k - 1))) e
     ∙ rw (go isActive, go drivesDav, go drivesNrfd, go drivesNdac, go drivesSrq, go talks) refl
   where
-    go : (f : Party → Bool) → pushed (bits (suc (k - 1)) (n - suc (k - 1)) (λ i. f (at ps i))) (f (at ps (k - 1))) ≡
+    go : (f : Party → Bool) → pushed (bits k (n - k) (λ i. f (at ps i))) (f (at ps (k - 1))) ≡
         bits (k - 1) (n - (k - 1)) (λ i. f (at ps i))
-    go f = down n (k - 1) (λ i. f (at ps i)) (bits (suc (k - 1)) (n - suc (k - 1)) (λ i. f (at ps i))) (omega arith) v
-        refl
+    go f = seen-down n k (λ i. f (at ps i)) h l v refl
 
 pub swept-all : (n k : ℕ) (ps : List Party) {s : Sweep} → k ≤ 0 → s ≡ sweptFrom k n ps → s ≡ sweepOf n ps
 swept-all n k ps l e = let z : n - k ≡ n = omega arith in let y : k ≡ 0 = omega arith in e ∙ rw (z, y) refl

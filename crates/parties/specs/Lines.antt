@@ -1,12 +1,12 @@
 -- The lines of the bus, the lines answer, and who drives a line: as sixteen bits, and how many they are (document 02,
--- Q-4).
+-- Q-4). And the lines of a parallel poll (Q-8).
 -- Assumes nothing.
 use Prim.Native.Nat.{ℕ, _+_, zero, suc, _*_}
 use mathlib.Core.Bool.{Bool, cond, not}
 use mathlib.Core.List.{List}
 use lib.Dec.{eqb}
 use lib.Count.{ones}
-use Rattle.party.specs.Driving.{isActive, drivesDav, drivesNrfd, drivesNdac, drivesSrq}
+use Rattle.party.specs.Driving.{isActive, drivesDav, drivesNrfd, drivesNdac, drivesSrq, answersPoll}
 use Rattle.party.specs.Parts.{one}
 use Rattle.parties.specs.Types.{Party, Lines, Scan, Masks, Counts}
 use Rattle.parties.specs.Places.{some, otherTalker}
@@ -67,3 +67,11 @@ countsOf m = record {
   eoi = ones (m .eoi);
   srq = ones (m .srq);
 }
+
+-- "answers the eight lines as a byte, line 1 lowest ..: a line is on exactly when some configured party on it has a
+-- status equal to its sense". Lines are counted from 0.
+abbrev pub lineOn : ℕ → List Party → ℕ → Bool
+lineOn n ps k = some n (answersPoll k) ps
+
+abbrev pub pollByte : ℕ → List Party → ℕ
+pollByte n ps = mask 8 (lineOn n ps)

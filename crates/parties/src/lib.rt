@@ -5,6 +5,7 @@ ghost use Rattle.parties.specs.Lines.{weight, linesByte};
 use party::Place;
 
 pub mod every;
+pub mod polling;
 pub mod sweeping;
 
 // The six lines of the bus, true where driven.

@@ -17,7 +17,7 @@ use party::Party;
 use party::Place;
 
 // A mask with one party more, below those that it has.
-fn pushed(m: u16, on: bool) -> u16
+pub(crate) fn pushed(m: u16, on: bool) -> u16
     ensures { λ r. ⌜ r ≡ pushed m on ⌝ }
 {
     (m << 1) | (on as u16)

@@ -11,6 +11,7 @@ use Rattle.party.specs.Sending.{isSource, isPolled}
 use Rattle.party.specs.Settling.{attended, sourceSettled, settled}
 use Rattle.service.specs.Service.{serviceSettled, asks, liveSettled}
 use Rattle.role.proofs.Logic.{no}
+use Rattle.role.proofs.Cases.{without-unmarked}
 use Rattle.role.proofs.Roles.{marked}
 
 pub newborn-still : (atn : Bool) (n : Name) → settled atn (builtParty n) ≡ builtParty n
@@ -19,7 +20,7 @@ newborn-still false n = refl
 
 -- after attention nobody waits for a secondary
 pub attended-unmarked : (t : Bool) (p : Party) → marked (attended t p .role) ≡ false
-attended-unmarked t p = refl
+attended-unmarked t p = without-unmarked (p .role .mark)
 
 -- settling leaves in STRS just the sources that were there
 pub settled-strs : (t : Bool) (p : Party) → settled t p .source ≡ Strs → (p .source ≡ Strs) × (isSource t p ≡ true)

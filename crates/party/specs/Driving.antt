@@ -1,6 +1,9 @@
--- What one party drives (document 01, "Lines" and "A party drives DAV in STRS, and ATN when it is active").
+-- What one party drives (document 01, "Lines" and "A party drives DAV in STRS, and ATN when it is active"; document 02,
+-- Q-8).
 -- Assumes nothing.
+use Prim.Native.Nat.{ℕ}
 use mathlib.Core.Bool.{Bool, true, false}
+use Rattle.role.specs.Roles.{answersOn}
 use Rattle.party.specs.Types.{Control, Idle, Standby, Active, Source, Sids, Sgns, Sdys, Strs, Acceptor, Aids}
 use Rattle.party.specs.Types.{Anrs, Acrs, Acds, Awns, Service, Nprs, Srqs, Aprs, Party}
 
@@ -53,3 +56,7 @@ srqAt Aprs = false
 
 abbrev pub drivesSrq : Party → Bool
 drivesSrq p = srqAt (p .request .service)
+
+-- Does it answer a parallel poll on line k, counted from 0: a "configured party on it has a status equal to its sense".
+abbrev pub answersPoll : ℕ → Party → Bool
+answersPoll k p = answersOn k (p .latches .ist) (p .role .response)

@@ -10,7 +10,7 @@ use Rattle.party.specs.Types.{Name, Role, Request, Party, Control, Sourc
 use Rattle.party.specs.Types.{Latches, Empty, Nprs}
 
 -- "All flags are off, control idle, SIDS, AIDS, nothing held, poll registers 0, NPRS." No byte is marked (document 02,
--- Q-6).
+-- Q-6), and the own status is "0 at build" (Q-8).
 abbrev pub builtParty : Name → Party
 builtParty n = record {
   role = unaddressed n;
@@ -20,7 +20,7 @@ builtParty n = record {
   held = Empty;
   input = Empty;
   request = record { live = 0; saved = 0; rsv2 = false; service = Nprs };
-  latches = record { feoi = false };
+  latches = record { feoi = false; ist = false };
 }
 
 -- The idle party: "its address is 0".
@@ -131,3 +131,9 @@ withLatches l p = record {
   request = p .request;
   latches = l;
 }
+
+abbrev pub withFeoi : Bool → Latches → Latches
+withFeoi on l = record { feoi = on; ist = l .ist }
+
+abbrev pub withIst : Bool → Latches → Latches
+withIst on l = record { feoi = l .feoi; ist = on }

@@ -12,7 +12,6 @@ pub use Rattle.offer.specs.declared.Slot.the-variants.{Empty, Full}
 pub use Rattle.offer.specs.declared.Kind.{Kind}
 pub use Rattle.offer.specs.declared.Kind.the-variants.{Command, Data, Status}
 pub use Rattle.names.specs.declared.Name.{Name}
-pub use Rattle.role.specs.declared.Mark.the-variants.{Unmarked}
 pub use Rattle.role.specs.declared.Role.{Role}
 pub use Rattle.service.specs.declared.Request.{Request}
 pub use Rattle.party.specs.declared.Latches.{Latches}

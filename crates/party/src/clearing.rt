@@ -4,7 +4,6 @@ ghost use Prim.Native.Nat.{_≤_};
 ghost use Rattle.party.specs.Parts.{one, heldBytes};
 ghost use Rattle.party.specs.Settling.{wiped, cleared, clearDrops, changeControl};
 use crate::Control;
-use crate::Latches;
 use crate::Party;
 use offer::Slot;
 use role::Role;
@@ -39,7 +38,8 @@ impl Party {
         let role = self.role;
         let name = role.name;
         let request = self.request;
-        let p = self.with_latches(Latches { feoi: false })
+        let latches = self.latches;
+        let p = self.with_latches(latches.with_feoi(false))
             .with_request(request.with_rsv2(false))
             .with_input(Slot::Empty);
         p.with_held(Slot::Empty)
@@ -52,9 +52,7 @@ impl Party {
         ensures { λ r. ⌜ r ≡ cleared self ⌝ }
     {
         let role = self.role;
-        let name = role.name;
-        let p = self.with_control(Control::Idle)
-            .with_role(Role::unaddressed(name));
+        let p = self.with_control(Control::Idle).with_role(role.flags_off());
         if self.is_active() {
             p.with_held(Slot::Empty)
         } else {

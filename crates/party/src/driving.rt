@@ -1,6 +1,7 @@
-// What one party drives: ATN, DAV, NRFD, NDAC, SRQ.
+// What one party drives: ATN, DAV, NRFD, NDAC, SRQ; and on which line it answers a parallel poll.
 ghost use mathlib.Core.Path.{_≡_};
 ghost use Rattle.party.specs.Driving.{isActive, drivesDav, drivesNrfd, drivesNdac, drivesSrq};
+ghost use Rattle.party.specs.Driving.{answersPoll};
 use crate::Acceptor;
 use crate::Control;
 use crate::Party;
@@ -68,5 +69,14 @@ impl Party {
             Service::Srqs => true,
             Service::Aprs => false,
         }
+    }
+
+    pub fn answers_poll(self, line: u8) -> bool
+        ensures { λ r. ⌜ r ≡ answersPoll line self ⌝ }
+    {
+        let role = self.role;
+        let response = role.response;
+        let latches = self.latches;
+        response.answers_on(line, latches.ist)
     }
 }

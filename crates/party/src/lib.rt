@@ -1,6 +1,6 @@
 // A party of the bus: its states, and what one party drives, hears, offers and settles to.
 ghost use mathlib.Core.Path.{_≡_};
-ghost use Rattle.party.specs.Parts.{builtParty};
+ghost use Rattle.party.specs.Parts.{builtParty, withFeoi, withIst};
 ghost use Rattle.role.specs.Roles.{unaddressed};
 use names::Name;
 use offer::Slot;
@@ -44,6 +44,33 @@ pub enum Acceptor {
 pub struct Latches {
     // The chip's feoi: the next byte that is written through its data out register has END.
     pub feoi: bool,
+    // Document 02, Q-8: the party's own status, which a parallel poll asks for. The standard: ist.
+    pub ist: bool,
+}
+
+impl Latches {
+    pub const IDLE: Latches = Latches {
+        feoi: false,
+        ist: false,
+    };
+
+    pub fn with_feoi(self, feoi: bool) -> Latches
+        ensures { λ r. ⌜ r ≡ withFeoi feoi self ⌝ }
+    {
+        Latches {
+            feoi,
+            ist: self.ist,
+        }
+    }
+
+    pub fn with_ist(self, ist: bool) -> Latches
+        ensures { λ r. ⌜ r ≡ withIst ist self ⌝ }
+    {
+        Latches {
+            feoi: self.feoi,
+            ist,
+        }
+    }
 }
 
 pub struct Party {
@@ -68,7 +95,7 @@ impl Party {
         held: Slot::Empty,
         input: Slot::Empty,
         request: Request::IDLE,
-        latches: Latches { feoi: false },
+        latches: Latches::IDLE,
     };
 
     // The party that a build gives this name.

@@ -5,7 +5,6 @@ use crate::Acceptor;
 use crate::Control;
 use crate::Party;
 use crate::Source;
-use role::Mark;
 
 impl Acceptor {
     fn attended(atn: bool, control: Control, listen: bool) -> Acceptor
@@ -48,10 +47,11 @@ impl Party {
         ensures { λ r. ⌜ r ≡ attended atn self ⌝ }
     {
         let role = self.role;
+        let mark = role.mark;
         let control = self.control;
         let acceptor = Acceptor::attended(atn, control, role.listen);
         let p = self.with_acceptor(acceptor).with_source(Source::Sids);
-        p.with_role(role.with_mark(Mark::Unmarked))
+        p.with_role(role.with_mark(mark.without_address()))
     }
 
     // A party after settling, with ATN as the call left it.

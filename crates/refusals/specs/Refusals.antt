@@ -43,9 +43,10 @@ talkRefusal on v = cond on
     (cond (isFound (v .talker)) ruling.Talker ruling.Accepted)))
     ruling.Accepted
 
--- "ROLE: .. go to standby not active"; "STANDING: go to standby .. by the sender of a standing command"
-abbrev pub standbyRefusal : Bool → Bool → Refusal
-standbyRefusal active sends = cond active (cond sends ruling.Standing ruling.Accepted) ruling.Role
+-- "ROLE: .. go to standby not active"; "STANDING: go to standby .. by the sender of a standing command". A parallel
+-- poll is refused alike: "4 for a party not active, then 7 for one with its command standing" (document 02, Q-8).
+abbrev pub activeRefusal : Bool → Bool → Refusal
+activeRefusal active sends = cond active (cond sends ruling.Standing ruling.Accepted) ruling.Role
 
 -- What a call of a party meets once it is there, or Accepted.
 abbrev pub own : View → Act → Refusal
@@ -58,7 +59,7 @@ own v (act-of.ListenOnly on) = ofSwitch on (listenRefusal (isOn on) (v .party .r
 own v (act-of.TalkOnly on) = ofSwitch on (talkRefusal (isOn on) v)
 -- "ROLE: take control not in standby"
 own v act-of.TakeControl = cond (inStandby (v .party .control)) ruling.Accepted ruling.Role
-own v act-of.GoToStandby = standbyRefusal (isActive (v .party)) (sends v)
+own v act-of.GoToStandby = activeRefusal (isActive (v .party)) (sends v)
 -- "ROLE: .. clear not by system party"
 own v act-of.InterfaceClear = cond (v .chief) ruling.Accepted ruling.Role
 -- "STANDING: .. reset by the sender of a standing command"
@@ -71,6 +72,8 @@ own v act-of.BusStatus = ruling.Accepted
 own v act-of.DoNothing = ruling.Accepted
 -- "11 NOREG for any other offset or auxiliary code, after NOPARTY and before the rest" (document 02, Q-6)
 own v act-of.NoRegister = ruling.NoReg
+own v (act-of.OwnStatus on) = ofSwitch on ruling.Accepted
+own v act-of.ParallelPoll = activeRefusal (isActive (v .party)) (sends v)
 
 -- "Order: .. 1, values, then 4 to 9." Lines and drivers name no party, and meet nothing.
 abbrev pub judge : View → Call → Refusal

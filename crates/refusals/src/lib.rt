@@ -1,7 +1,7 @@
 // Which refusal a call meets.
 ghost use mathlib.Core.Path.{_≡_};
 ghost use mathlib.Core.Bool.{cond};
-ghost use Rattle.refusals.specs.Refusals.{isInside, inStandby, listenRefusal, talkRefusal, standbyRefusal, own};
+ghost use Rattle.refusals.specs.Refusals.{isInside, inStandby, listenRefusal, talkRefusal, activeRefusal, own};
 ghost use Rattle.refusals.specs.Refusals.{judge, writeRefusal};
 use effect::Act;
 use effect::Call;
@@ -77,8 +77,9 @@ fn talk_refusal(on: bool, v: View) -> Refusal
     }
 }
 
-fn standby_refusal(active: bool, sends: bool) -> Refusal
-    ensures { λ r. ⌜ r ≡ standbyRefusal active sends ⌝ }
+// What the active party alone may do, and not while its command stands.
+fn active_refusal(active: bool, sends: bool) -> Refusal
+    ensures { λ r. ⌜ r ≡ activeRefusal active sends ⌝ }
 {
     if active {
         if sends {
@@ -113,7 +114,7 @@ fn own(a: Act, v: View) -> Refusal
         ),
         Act::TalkOnly(on) => when(1 < on, Refusal::BadValue, talk_refusal(is_on(on), v)),
         Act::TakeControl => when(in_standby(control), Refusal::Accepted, Refusal::Role),
-        Act::GoToStandby => standby_refusal(p.is_active(), st.sends_command(i)),
+        Act::GoToStandby => active_refusal(p.is_active(), st.sends_command(i)),
         Act::InterfaceClear => when(v.chief, Refusal::Accepted, Refusal::Role),
         Act::Reset => when(st.sends_command(i), Refusal::Standing, Refusal::Accepted),
         Act::Drop => Refusal::Accepted,
@@ -123,6 +124,8 @@ fn own(a: Act, v: View) -> Refusal
         Act::BusStatus => Refusal::Accepted,
         Act::DoNothing => Refusal::Accepted,
         Act::NoRegister => Refusal::NoReg,
+        Act::OwnStatus(on) => when(1 < on, Refusal::BadValue, Refusal::Accepted),
+        Act::ParallelPoll => active_refusal(p.is_active(), st.sends_command(i)),
     }
 }
 

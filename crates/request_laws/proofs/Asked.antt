@@ -49,6 +49,8 @@ asked (call-of.Of i act-of.MarkEnd) x q = q
 asked (call-of.Of i act-of.BusStatus) x q = q
 asked (call-of.Of i act-of.DoNothing) x q = q
 asked (call-of.Of i act-of.NoRegister) x q = q
+asked (call-of.Of i (act-of.OwnStatus on)) x q = q
+asked (call-of.Of i act-of.ParallelPoll) x q = q
 asked call-of.Lines x q = q
 asked call-of.Drivers x q = q
 
@@ -59,12 +61,14 @@ Fair after.Settle p q = isActive q ≡ isActive p
 Fair (after.Pass j) p q = q .request ≡ p .request
 Fair after.Attend p q = q ≡ q
 Fair after.Clear p q = q ≡ q
+Fair after.Poll p q = isActive q ≡ isActive p
 
 fair : (x : After) (p q : Party) → isActive q ≡ isActive p → q .request ≡ p .request → Fair x p q
 fair after.Settle p q a r = a
 fair (after.Pass j) p q a r = r
 fair after.Attend p q a r = refl
 fair after.Clear p q a r = refl
+fair after.Poll p q a r = a
 
 module _ (l : Lines) (p : Party) where
   -- a step that puts a status byte
@@ -178,5 +182,7 @@ module _ (v : View) where
   leaves (call-of.Of i act-of.BusStatus) = record { request = refl; follows = refl }
   leaves (call-of.Of i act-of.DoNothing) = record { request = refl; follows = refl }
   leaves (call-of.Of i act-of.NoRegister) = record { request = refl; follows = refl }
+  leaves (call-of.Of i (act-of.OwnStatus on)) = record { request = refl; follows = refl }
+  leaves (call-of.Of i act-of.ParallelPoll) = record { request = refl; follows = refl }
   leaves call-of.Lines = record { request = refl; follows = refl }
   leaves call-of.Drivers = record { request = refl; follows = refl }

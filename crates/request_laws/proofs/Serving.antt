@@ -119,6 +119,9 @@ module _ (b : Bus) (I : Inv b) where
         go : (j : ℕ) (x : Bool) → cond x (e .party) (at all j) .request ≡ cond x (e .party) (here b j) .request
         go j true = refl
         go j false = each-part (λ (p : Party). p .request) (b .count) cleared (b .parties) (λ p. refl) j
+    follow-settles after.Poll F = settles (atnOf b) (deserted (atnOf b) (set (b .parties) i (e .party)) (e .standing))
+        (e .said) (set (b .parties) i (e .party)) (e .standing)
+        (some-set (b .count) isActive (b .parties) i (e .party) F) (rw length-set fits) left stored
 
     -- where settling alone follows, and the role is as it was, the party is polled if it was
     pub follow-polled : i < b .count → (x : After) → x ≡ after.Settle → isActive (e .party) ≡ isActive (here b i)
@@ -152,6 +155,8 @@ asked-service (call-of.Of i act-of.MarkEnd) x q = refl
 asked-service (call-of.Of i act-of.BusStatus) x q = refl
 asked-service (call-of.Of i act-of.DoNothing) x q = refl
 asked-service (call-of.Of i act-of.NoRegister) x q = refl
+asked-service (call-of.Of i (act-of.OwnStatus on)) x q = refl
+asked-service (call-of.Of i act-of.ParallelPoll) x q = refl
 asked-service call-of.Lines x q = refl
 asked-service call-of.Drivers x q = refl
 
@@ -202,6 +207,8 @@ asked-bit (call-of.Of i act-of.MarkEnd) x q = inl refl
 asked-bit (call-of.Of i act-of.BusStatus) x q = inl refl
 asked-bit (call-of.Of i act-of.DoNothing) x q = inl refl
 asked-bit (call-of.Of i act-of.NoRegister) x q = inl refl
+asked-bit (call-of.Of i (act-of.OwnStatus on)) x q = inl refl
+asked-bit (call-of.Of i act-of.ParallelPoll) x q = inl refl
 asked-bit call-of.Lines x q = inl refl
 asked-bit call-of.Drivers x q = inl refl
 
@@ -233,12 +240,14 @@ followed-stat after.Settle t b i e h = h
 followed-stat (after.Pass j) t b i e h = no (cc)
 followed-stat after.Attend t b i e h = h
 followed-stat after.Clear t b i e h = no (cc)
+followed-stat after.Poll t b i e h = no (cc)
 
 accepted-says : (x : After) (t : Bool) (b : Bus) (i : ℕ) (e : Effect) → followed x t b i e .refusal ≡ ruling.Accepted
 accepted-says after.Settle t b i e = refl
 accepted-says (after.Pass j) t b i e = refl
 accepted-says after.Attend t b i e = refl
 accepted-says after.Clear t b i e = refl
+accepted-says after.Poll t b i e = refl
 
 module _ (b : Bus) (I : Inv b) (c : Call) (ok : isAccepted (m.refusal (lines b) b c) ≡ true) where
   abbrev i : ℕ

@@ -4,14 +4,17 @@ use mathlib.Core.Path.{_≡_, refl}
 use mathlib.Core.Bool.{Bool, true, false}
 use mathlib.Core.Logic.{_⊎_, inl, inr}
 use Rattle.role.specs.Types.{Secondary, Absent, Given, Mark, Unmarked, TalkPrimary, ListenPrimary, Role}
+use Rattle.role.specs.Types.{Configuring}
 use Rattle.names.proofs.Clashes.{isExtended}
-use Rattle.role.specs.Roles.{withFlags, markSet, listenAddressed, talkAddressed, seconded}
+use Rattle.role.specs.Roles.{withFlags, markSet, listenAddressed, talkAddressed, seconded, withoutAddress}
+use Rattle.role.specs.Roles.{configuredBy}
 use Rattle.role.proofs.Logic.{no}
 
 abbrev pub talkPrimary : Mark → Bool
 talkPrimary Unmarked = false
 talkPrimary TalkPrimary = true
 talkPrimary ListenPrimary = false
+talkPrimary Configuring = false
 
 -- what holds of each way that the flags can go
 pub listen-elim : (P : Role → Type 0) (x : Secondary) (mine : Bool) (r : Role) → P (withFlags false true r) → P r
@@ -34,6 +37,7 @@ second-elim P TalkPrimary true r f g h k = f
 second-elim P TalkPrimary false r f g h k = g
 second-elim P ListenPrimary true r f g h k = h
 second-elim P ListenPrimary false r f g h k = k
+second-elim P Configuring mine r f g h k = k
 
 -- who had no more talk before has no more after
 pub listen-weak : (x : Secondary) (mine t l : Bool) (r : Role) → (t ≡ true → r .talk ≡ true)
@@ -56,6 +60,7 @@ second-weak TalkPrimary true t l r h e = e
 second-weak TalkPrimary false t l r h e = e
 second-weak ListenPrimary true t l r h e = e
 second-weak ListenPrimary false t l r h e = h e
+second-weak Configuring mine t l r h e = h e
 
 -- a listen address sets no talk mark, and turns no talk on
 pub listen-unmarked : (x : Secondary) (mine : Bool) → talkPrimary (markSet x mine ListenPrimary) ≡ false
@@ -95,3 +100,15 @@ second-talk TalkPrimary true r e = inl (refl, refl)
 second-talk TalkPrimary false r e = no (cc)
 second-talk ListenPrimary true r e = no (cc)
 second-talk ListenPrimary false r e = inr (refl, e)
+second-talk Configuring mine r e = inr (refl, e)
+
+-- who configures waits for no talk secondary, and attention leaves nobody who does
+pub without-unmarked : (m : Mark) → talkPrimary (withoutAddress m) ≡ false
+without-unmarked Unmarked = refl
+without-unmarked TalkPrimary = refl
+without-unmarked ListenPrimary = refl
+without-unmarked Configuring = refl
+
+pub configured-unmarked : (listen : Bool) (m : Mark) → talkPrimary (configuredBy listen m) ≡ false
+configured-unmarked true m = refl
+configured-unmarked false m = without-unmarked m

@@ -7,7 +7,7 @@ use mathlib.Core.Logic.{_⊎_, inl, inr}
 use Prim.Native.Nat.{ℕ, _<_}
 use borrow.Author.Tests.{eqb-true}
 use Rattle.message.specs.declared.Meaning.the-variants.{Other, Listen, Unlisten, Talk, Untalk, Sdc, Get, Tct, Dcl, Spe}
-use Rattle.message.specs.declared.Meaning.the-variants.{Spd, Second, Neither}
+use Rattle.message.specs.declared.Meaning.the-variants.{Spd, Second, Neither, Ppc, Ppu}
 use Rattle.role.specs.Types.{Address, SecondaryAddress, Meaning, Name, Role, Event}
 use Rattle.role.specs.Types.ev
 use Rattle.names.specs.Names.{meets, clashes}
@@ -17,7 +17,7 @@ use Rattle.role.specs.Roles.{passesControl}
 use Rattle.role.proofs.Logic.{no, test, cond-elim, or-left, or-right}
 use Rattle.role.proofs.Cases.{talkPrimary, listen-elim, talk-elim, second-elim, listen-weak, talk-weak}
 use Rattle.role.proofs.Cases.{second-weak, listen-unmarked, listen-talk, talk-talk, talk-mark, talk-sets}
-use Rattle.role.proofs.Cases.{second-talk}
+use Rattle.role.proofs.Cases.{second-talk, configured-unmarked}
 
 -- What a build fixes of a role.
 abbrev pub nameOf : Role → Name
@@ -112,6 +112,8 @@ hear-single Spd r h = h
 hear-single (Second s) r h = second-elim Single (r .mark) (ownsSecondary s r) r (λ e f. no (cc)) (λ e. no (cc))
     (λ e. no (cc)) h
 hear-single Neither r h = h
+hear-single Ppc r h = h
+hear-single Ppu r h = h
 
 pub hear-name : (m : Meaning) (r : Role) → nameOf (roleHeard m r) ≡ nameOf r
 hear-name Other r = refl
@@ -128,9 +130,12 @@ hear-name Spd r = refl
 hear-name (Second s) r = second-elim (λ (x : Role). nameOf x ≡ nameOf r) (r .mark) (ownsSecondary s r) r refl refl refl
     refl
 hear-name Neither r = refl
+hear-name Ppc r = refl
+hear-name Ppu r = refl
 
--- talk or listen changed by the host before what stands is heard
-same-mark : (m : Meaning) (t l : Bool) (r : Role) → markAfter m (withFlags t l r) ≡ markAfter m r
+-- talk or listen changed by the host before what stands is heard: PPC marks by listen, and leaves no talk mark
+same-mark : (m : Meaning) (t l : Bool) (r : Role) → talkPrimary (markAfter m (withFlags t l r)) ≡ talkPrimary
+    (markAfter m r)
 same-mark Other t l r = refl
 same-mark (Listen a) t l r = refl
 same-mark Unlisten t l r = refl
@@ -144,6 +149,8 @@ same-mark Spe t l r = refl
 same-mark Spd t l r = refl
 same-mark (Second s) t l r = refl
 same-mark Neither t l r = refl
+same-mark Ppc t l r = configured-unmarked l (r .mark) ∙ sym (configured-unmarked (r .listen) (r .mark))
+same-mark Ppu t l r = refl
 
 no-more-talk : (m : Meaning) (t l : Bool) (r : Role) → (t ≡ true → r .talk ≡ true)
     → roleHeard m (withFlags t l r) .talk ≡ true → roleHeard m r .talk ≡ true
@@ -160,10 +167,12 @@ no-more-talk Spe t l r h = h
 no-more-talk Spd t l r h = h
 no-more-talk (Second s) t l r h = second-weak (r .mark) (ownsSecondary s r) t l r h
 no-more-talk Neither t l r h = h
+no-more-talk Ppc t l r h = h
+no-more-talk Ppu t l r h = h
 
 pub hear-weak : (m : Meaning) (t l : Bool) (r : Role) → (t ≡ true → r .talk ≡ true)
     → Weak (roleHeard m r) (roleHeard m (withFlags t l r))
-hear-weak m t l r h = weakly (no-more-talk m t l r h) (ap talkPrimary (same-mark m t l r))
+hear-weak m t l r h = weakly (no-more-talk m t l r h) (same-mark m t l r)
     (hear-name m (withFlags t l r) ∙ sym (hear-name m r))
 
 -- the command that passes control leaves every talk as it is
@@ -181,6 +190,8 @@ hear-passes Spe r h = no (cc)
 hear-passes Spd r h = no (cc)
 hear-passes (Second s) r h = no (cc)
 hear-passes Neither r h = no (cc)
+hear-passes Ppc r h = no (cc)
+hear-passes Ppu r h = no (cc)
 
 -- what holds of heard, clear and trigger holds of the event of hearing
 pub hear-events : (P : Event → Type 0) → P ev.Heard → P ev.Clear → P ev.Trigger → (m : Meaning) (listen : Bool)
@@ -198,6 +209,8 @@ hear-events P h c t Spe l = h
 hear-events P h c t Spd l = h
 hear-events P h c t (Second s) l = h
 hear-events P h c t Neither l = h
+hear-events P h c t Ppc l = h
+hear-events P h c t Ppu l = h
 
 -- Every one of n parties with roles w hears m, with ATN true, and has role u then: still at most one talks.
 module _ (atn : Bool) (on : atn ≡ true) (n : ℕ) (w u : ℕ → Role) (D : Apart n w) (A : Addressed atn w) where
@@ -301,7 +314,7 @@ module _ (atn : Bool) (on : atn ≡ true) (n : ℕ) (w u : ℕ → Role) (D : Ap
         one i j l k (inr x) (inl y) = let z = A .led j i (y .0) (x .1) in let v = x .0 in no (cc)
         one i j l k (inr x) (inr y) = A .one i j (x .1) (y .1)
 
-  -- 7F changes no role
+  -- 7F changes no flag and no mark
   pass-by : Heard Neither → Addressed atn u
   pass-by H = record {
     one = λ i j e f. A .one i j (by-talk Neither H i e .2) (by-talk Neither H j f .2);
@@ -325,3 +338,5 @@ module _ (atn : Bool) (on : atn ≡ true) (n : ℕ) (w u : ℕ → Role) (D : Ap
   hear-all Spd H = tame Spd H (λ r e. e) (λ r. refl)
   hear-all (Second s) H = seconds s H
   hear-all Neither H = pass-by H
+  hear-all Ppc H = tame Ppc H (λ r e. e) (λ r. configured-unmarked (r .listen) (r .mark))
+  hear-all Ppu H = tame Ppu H (λ r e. e) (λ r. refl)

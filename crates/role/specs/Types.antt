@@ -8,5 +8,7 @@ pub use Rattle.names.specs.declared.Secondary.{Secondary}
 pub use Rattle.names.specs.declared.Secondary.the-variants.{Absent, Given}
 pub use Rattle.names.specs.declared.Name.{Name}
 pub use Rattle.role.specs.declared.Mark.{Mark}
-pub use Rattle.role.specs.declared.Mark.the-variants.{Unmarked, TalkPrimary, ListenPrimary}
+pub use Rattle.role.specs.declared.Mark.the-variants.{Unmarked, TalkPrimary, ListenPrimary, Configuring}
+pub use Rattle.role.specs.declared.Response.{Response}
+pub use Rattle.role.specs.declared.Response.the-variants.{Unset, Set}
 pub use Rattle.role.specs.declared.Role.{Role}

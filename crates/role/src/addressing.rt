@@ -86,6 +86,7 @@ impl Role {
                     self
                 }
             }
+            Mark::Configuring => self, // no address
         }
     }
 }

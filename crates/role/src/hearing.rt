@@ -1,9 +1,12 @@
 // Hearing: what a command does to who hears it.
 ghost use mathlib.Core.Path.{_≡_};
-ghost use Rattle.role.specs.Roles.{markAfter, addressed, roleHeard, hearEvent, passesControl};
+ghost use Rattle.role.specs.Roles.{markAfter, addressed, responseAfter, roleHeard, hearEvent};
+ghost use Rattle.role.specs.Roles.{passesControl};
 use crate::Mark;
+use crate::Response;
 use crate::Role;
 use crate::addressing::mark_set;
+use crate::configuring::response_set;
 use event::Event;
 use message::Meaning;
 
@@ -14,6 +17,7 @@ impl Role {
     {
         let name = self.name;
         let secondary = name.secondary;
+        let mark = self.mark;
         match m {
             Meaning::Other => Mark::Unmarked,
             Meaning::Listen(a) => mark_set(secondary, self.owns(a), Mark::ListenPrimary),
@@ -26,8 +30,10 @@ impl Role {
             Meaning::Dcl => Mark::Unmarked,
             Meaning::Spe => Mark::Unmarked,
             Meaning::Spd => Mark::Unmarked,
-            Meaning::Second(_) => self.mark,
-            Meaning::Neither => self.mark,
+            Meaning::Second(_) => mark,
+            Meaning::Neither => mark,
+            Meaning::Ppc => mark.configured_by(self.listen),
+            Meaning::Ppu => Mark::Unmarked,
         }
     }
 
@@ -52,6 +58,33 @@ impl Role {
             Meaning::Spd => self.with_poll_mode(false),
             Meaning::Second(s) => self.seconded(mark, self.owns_secondary(s)),
             Meaning::Neither => self,
+            Meaning::Ppc => self,
+            Meaning::Ppu => self,
+        }
+    }
+
+    // The response of who has heard a command.
+    fn response_after(self, m: Meaning) -> Response
+        ensures { λ r. ⌜ r ≡ responseAfter m self ⌝ }
+    {
+        let mark = self.mark;
+        let response = self.response;
+        match m {
+            Meaning::Other => response,
+            Meaning::Listen(_) => response,
+            Meaning::Unlisten => response,
+            Meaning::Talk(_) => response,
+            Meaning::Untalk => response,
+            Meaning::Sdc => response,
+            Meaning::Get => response,
+            Meaning::Tct => response,
+            Meaning::Dcl => response,
+            Meaning::Spe => response,
+            Meaning::Spd => response,
+            Meaning::Second(s) => response.configured(mark, response_set(s)),
+            Meaning::Neither => response.configured(mark, Response::Unset),
+            Meaning::Ppc => response,
+            Meaning::Ppu => Response::Unset,
         }
     }
 
@@ -59,7 +92,9 @@ impl Role {
     pub fn heard(self, m: Meaning) -> Role
         ensures { λ r. ⌜ r ≡ roleHeard m self ⌝ }
     {
-        self.addressed(m).with_mark(self.mark_after(m))
+        let mark = self.mark_after(m);
+        let response = self.response_after(m);
+        self.addressed(m).with_mark(mark).with_response(response)
     }
 }
 
@@ -81,6 +116,8 @@ pub fn hear_event(m: Meaning, listen: bool) -> Event
         Meaning::Spd => Event::Heard,
         Meaning::Second(_) => Event::Heard,
         Meaning::Neither => Event::Heard,
+        Meaning::Ppc => Event::Heard,
+        Meaning::Ppu => Event::Heard,
     }
 }
 
@@ -102,5 +139,7 @@ pub fn passes_control(m: Meaning) -> bool
         Meaning::Spd => false,
         Meaning::Second(_) => false,
         Meaning::Neither => false,
+        Meaning::Ppc => false,
+        Meaning::Ppu => false,
     }
 }

@@ -25,6 +25,7 @@ count-kept after.Settle t b i e = refl
 count-kept (after.Pass j) t b i e = refl
 count-kept after.Attend t b i e = refl
 count-kept after.Clear t b i e = refl
+count-kept after.Poll t b i e = refl
 
 pub call-count : (b : Bus) (c : Call) → m.call b c .bus .count ≡ b .count
 call-count b c = cond-elim (λ (a : Answer). a .bus .count ≡ b .count) (isAccepted (m.refusal (lines b) b c))

@@ -16,10 +16,11 @@ use Rattle.party.specs.Sending.{isSource, isPolled, offer}
 use Rattle.party.specs.Settling.{cleared, clearDrops}
 use Rattle.parties.specs.Places.{at, total, isFound}
 use Rattle.parties.proofs.Places.{total-zero}
-use Rattle.effect.specs.Calls.{isAccepted, placeOf, isOn, refusalNumber}
+use Rattle.effect.specs.Calls.{switchOf, isAccepted, placeOf, isOn, refusalNumber}
 use Rattle.effect.specs.Stands.{stands, sends}
 use Rattle.effect.specs.Effects.{withStanding}
 use Rattle.refusals.specs.Refusals.{ofSwitch, writeRefusal, listenRefusal, talkRefusal, inStandby, own, judge}
+use Rattle.refusals.specs.Refusals.{activeRefusal}
 use Rattle.source_step.specs.SourceStep.{ready, ended, sourceIn}
 use Rattle.acceptor_step.specs.AcceptorStep.{takes, acceptorIn}
 use Rattle.host_calls.specs.HostCalls.{readOut}
@@ -109,6 +110,8 @@ effect-drops v (call-of.Of i act-of.MarkEnd) = none v
 effect-drops v (call-of.Of i act-of.BusStatus) = none v
 effect-drops v (call-of.Of i act-of.DoNothing) = none v
 effect-drops v (call-of.Of i act-of.NoRegister) = none v
+effect-drops v (call-of.Of i (act-of.OwnStatus on)) = none v
+effect-drops v (call-of.Of i act-of.ParallelPoll) = none v
 effect-drops v call-of.Lines = none v
 effect-drops v call-of.Drivers = none v
 
@@ -142,6 +145,7 @@ module _ (b : Bus) (I : Inv b) where
       (λ k j f g. I .pre .charge k j (active-busy (here b k) f) (active-busy (here b j) g)) in
       let z = held-one (cleared (here b i)) in
       omega arith
+  followed-drops after.Poll t i e h = omega arith
 
 pub few-dropped : FewDropped
 few-dropped b led c =
@@ -157,6 +161,7 @@ followed-breaks after.Settle t b i e = at-most-one (deserted t (set (b .parties)
 followed-breaks (after.Pass j) t b i e = at-most-one (stands (e .standing))
 followed-breaks after.Attend t b i e = at-most-one (stands (e .standing))
 followed-breaks after.Clear t b i e = at-most-one (stands (e .standing))
+followed-breaks after.Poll t b i e = at-most-one (deserted t (set (b .parties) i (e .party)) (e .standing))
 
 pub one-broken : OneBroken
 one-broken b c =
@@ -168,26 +173,6 @@ one-broken b c =
 
 pub refused-leaves : RefusedLeaves
 refused-leaves = reached.refused-leaves
-
--- The END or the switch of an act, and 0 for acts that have none.
-abbrev pub switchOf : Act → ℕ
-switchOf act-of.Step = 0
-switchOf (act-of.Write x e) = e
-switchOf act-of.Read = 0
-switchOf (act-of.PollRegister x) = 0
-switchOf (act-of.ListenOnly on) = on
-switchOf (act-of.TalkOnly on) = on
-switchOf act-of.TakeControl = 0
-switchOf act-of.GoToStandby = 0
-switchOf act-of.InterfaceClear = 0
-switchOf act-of.Reset = 0
-switchOf act-of.Drop = 0
-switchOf (act-of.SecondRequest on) = on
-switchOf (act-of.DataOut x) = 0
-switchOf act-of.MarkEnd = 0
-switchOf act-of.BusStatus = 0
-switchOf act-of.DoNothing = 0
-switchOf act-of.NoRegister = 0
 
 -- The refusals that a call can meet: up to 9, and of these BADVALUE for an END or a switch over 1 alone; or NOREG, if
 -- it asks for no register that is carried.
@@ -214,6 +199,9 @@ switched s r f = cond-elim (λ (x : Refusal). isMet s x ≡ true) (ltb 1 s) (λ 
 write-met : (s : ℕ) (v : View) → isMet s (writeRefusal v) ≡ true
 write-met s v = either s (isFull (v .party .held)) _ _ refl refl
 
+active-met : (v : View) → isMet 0 (activeRefusal (isActive (v .party)) (sends v)) ≡ true
+active-met v = either 0 (isActive (v .party)) _ _ (either 0 (sends v) _ _ refl refl) refl
+
 own-met : (v : View) (i : Place) (a : Act) → Met (call-of.Of i a) (own v a)
 own-met v i act-of.Step = inl refl
 own-met v i (act-of.Write x e) = inl (switched e (writeRefusal v) (write-met e v))
@@ -225,7 +213,7 @@ own-met v i (act-of.TalkOnly on) = inl (switched on (talkRefusal (isOn on) v)
     (either on (isOn on) _ _ (either on (v .party .role .listen) _ _ refl
     (either on (v .lines .atn) _ _ refl (either on (isFound (v .talker)) _ _ refl refl))) refl))
 own-met v i act-of.TakeControl = inl (either 0 (inStandby (v .party .control)) _ _ refl refl)
-own-met v i act-of.GoToStandby = inl (either 0 (isActive (v .party)) _ _ (either 0 (sends v) _ _ refl refl) refl)
+own-met v i act-of.GoToStandby = inl (active-met v)
 own-met v i act-of.InterfaceClear = inl (either 0 (v .chief) _ _ refl refl)
 own-met v i act-of.Reset = inl (either 0 (sends v) _ _ refl refl)
 own-met v i act-of.Drop = inl refl
@@ -235,6 +223,8 @@ own-met v i act-of.MarkEnd = inl refl
 own-met v i act-of.BusStatus = inl refl
 own-met v i act-of.DoNothing = inl refl
 own-met v i act-of.NoRegister = inr (refl, (i, refl))
+own-met v i (act-of.OwnStatus on) = inl (switched on ruling.Accepted refl)
+own-met v i act-of.ParallelPoll = inl (active-met v)
 
 judge-met : (v : View) (c : Call) → Met c (judge v c)
 judge-met v (call-of.Of i a) = cond-elim (Met (call-of.Of i a)) (v .inside) (λ _. own-met v i a) (λ _. inl refl)
@@ -247,6 +237,7 @@ followed-met s after.Settle t b i e = refl
 followed-met s (after.Pass j) t b i e = refl
 followed-met s after.Attend t b i e = refl
 followed-met s after.Clear t b i e = refl
+followed-met s after.Poll t b i e = refl
 
 pub call-met : (b : Bus) (c : Call) → Met c (m.call b c .refusal)
 call-met b c =

@@ -1,5 +1,5 @@
 -- What a call leaves of names and latches, on any bus. Hearing, interface clear, attention and settling leave both; a
--- reset, feoi and a byte through data out change the latches of their own party.
+-- reset, feoi, a byte through data out and the own status change the latches of their own party.
 -- Assumes nothing.
 use mathlib.Core.Path.{_≡_, refl, sym, ap, _∙_}
 use mathlib.Core.Bool.{Bool, true, false, not, cond, _||_}
@@ -18,7 +18,7 @@ use Rattle.party.specs.Sending.{isSource, isPolled, offer}
 use Rattle.party.specs.Settling.{attended, settled, changeControl, cleared}
 use Rattle.parties.specs.Places.{at, some, each}
 use Rattle.parties.proofs.Places.{set-part, each-part}
-use Rattle.effect.specs.Calls.{placeOf, actNumber}
+use Rattle.effect.specs.Calls.{placeOf, actNumber, switchOf, isOn}
 use Rattle.effect.specs.Stands.{ofCommand}
 use Rattle.source_step.specs.SourceStep.{ready, ended, sourceIn}
 use Rattle.acceptor_step.specs.AcceptorStep.{takes, acceptorIn}
@@ -81,10 +81,12 @@ module _ (v : View) where
       (λ _. source-same (p .source) (offer (isPolled t p) p) (kindOf (isActive p) (isPolled t p)))
       (λ _. acceptor-same (p .acceptor))
 
--- the latches that an accepted call leaves its party with: feoi, then reset and a byte through data out
+-- the latches that an accepted call leaves its party with: feoi, then reset and a byte through data out; the own status
 abbrev pub latched : Call → Latches → Latches
-latched (call-of.Of i a) l = let n = actNumber a in
-    record { feoi = cond (eqb n 15) true (cond (eqb n 10 || eqb n 14) false (l .feoi)) }
+latched (call-of.Of i a) l = let n = actNumber a in record {
+  feoi = cond (eqb n 15) true (cond (eqb n 10 || eqb n 14) false (l .feoi));
+  ist = cond (eqb n 19) (isOn (switchOf a)) (l .ist);
+}
 latched call-of.Lines l = l
 latched call-of.Drivers l = l
 
@@ -94,12 +96,14 @@ Fair after.Settle p q = q ≡ q
 Fair (after.Pass j) p q = steady q ≡ steady p
 Fair after.Attend p q = q ≡ q
 Fair after.Clear p q = steady q ≡ steady p
+Fair after.Poll p q = q ≡ q
 
 fair : (x : After) (p q : Party) → steady q ≡ steady p → Fair x p q
 fair after.Settle p q e = refl
 fair (after.Pass j) p q e = e
 fair after.Attend p q e = refl
 fair after.Clear p q e = e
+fair after.Poll p q e = refl
 
 -- what a call's effect leaves of its own party
 abbrev Leaves : Call → Party → Outcome → Type 0
@@ -132,6 +136,8 @@ effect-leaves v (call-of.Of i act-of.MarkEnd) = (refl, refl)
 effect-leaves v (call-of.Of i act-of.BusStatus) = (refl, refl)
 effect-leaves v (call-of.Of i act-of.DoNothing) = (refl, refl)
 effect-leaves v (call-of.Of i act-of.NoRegister) = (refl, refl)
+effect-leaves v (call-of.Of i (act-of.OwnStatus on)) = (refl, refl)
+effect-leaves v (call-of.Of i act-of.ParallelPoll) = (refl, refl)
 effect-leaves v call-of.Lines = (refl, refl)
 effect-leaves v call-of.Drivers = (refl, refl)
 
@@ -165,6 +171,7 @@ module _ (b : Bus) (i : ℕ) (e : Effect) where
       let same = each-part steady (b .count) cleared (b .parties) (λ p. refl) in
       attended-same (set all i (e .party)) j ∙ set-part steady all i (e .party) (f ∙ sym (same i)) j ∙ same j
       ∙ sym (set-part steady (b .parties) i (e .party) f j)
+  followed-same after.Poll f t j = settled-same t (set (b .parties) i (e .party)) j
 
 -- An accepted call leaves every name, and of the latches those that are not its own party's.
 pub accepted-kept : (b : Bus) (c : Call) (j : ℕ) → let v = m.viewAt (placeOf c) (lines b) b in

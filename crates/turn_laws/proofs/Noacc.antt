@@ -134,6 +134,7 @@ module _ (b : Bus) (I : Inv b) where
     over-else (after.Pass j) v e q h = no (cc)
     over-else after.Attend v e q h = no (cc)
     over-else after.Clear v e q h = no (cc)
+    over-else after.Poll v e q h = no (cc)
 
     ended-else : (st : Standing) → Told (ended st seen)
     unfolding Told

@@ -245,6 +245,8 @@ module _ (b : Bus) (I : Inv b) (p v : ℕ) (e : Bool) (k : Kind) (O : OnOffer b 
   host-stays i act-of.BusStatus ok l n = settle-stays (i .0) (does i act-of.BusStatus) refl
   host-stays i act-of.DoNothing ok l n = settle-stays (i .0) (does i act-of.DoNothing) refl
   host-stays i act-of.NoRegister ok l n = settle-stays (i .0) (does i act-of.NoRegister) refl
+  host-stays i (act-of.OwnStatus on) ok l n = settle-stays (i .0) (does i (act-of.OwnStatus on)) refl
+  host-stays i act-of.ParallelPoll ok l n = settle-stays (i .0) (does i act-of.BusStatus) refl
 
   judged : (i : Place) (a : Act) → (a ≡ act-of.Step → ⊥) → Stays (m.call b (call-of.Of i a))
   judged i a n = cond-elim Stays (isAccepted (m.refusal (lines b) b (call-of.Of i a)))
@@ -270,6 +272,8 @@ module _ (b : Bus) (I : Inv b) (p v : ℕ) (e : Bool) (k : Kind) (O : OnOffer b 
   call-stays (call-of.Of i act-of.BusStatus) = judged i act-of.BusStatus (λ h. no (cc))
   call-stays (call-of.Of i act-of.DoNothing) = judged i act-of.DoNothing (λ h. no (cc))
   call-stays (call-of.Of i act-of.NoRegister) = judged i act-of.NoRegister (λ h. no (cc))
+  call-stays (call-of.Of i (act-of.OwnStatus on)) = judged i (act-of.OwnStatus on) (λ h. no (cc))
+  call-stays (call-of.Of i act-of.ParallelPoll) = judged i act-of.ParallelPoll (λ h. no (cc))
   call-stays call-of.Lines = settle-stays 0 (effectOf (m.viewAt (placeOf call-of.Lines) (lines b) b) call-of.Lines) refl
   call-stays call-of.Drivers = settle-stays 0
       (effectOf (m.viewAt (placeOf call-of.Drivers) (lines b) b) call-of.Drivers) refl

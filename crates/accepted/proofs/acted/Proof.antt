@@ -80,6 +80,19 @@ returns-16 c = simp (c .stay .ensures, c .before .enum-told10 .given .1)
 returns-17 : tie.Need-returns-17
 returns-17 c = simp (c .stay2 .ensures, c .before .enum-told11 .given .1)
 
+returns-18 : tie.Need-returns-18
+returns-18 c =
+    simp (
+      c .with-standing15 .ensures,
+      c .before .own-status .ensures,
+      c .before .before .is-on5 .ensures,
+      c .before .before .before .before .a7 .given .1,
+    )
+
+returns-19 : tie.Need-returns-19
+returns-19 c =
+    simp (c .with-standing16 .ensures, c .before .parallel-poll .ensures, c .before .before .enum-told12 .given .1)
+
 pub acted-spec : {M : Type 1} → statement M
 acted-spec =
     tie.close
@@ -94,5 +107,7 @@ acted-spec =
     (λ c. search needs) (λ c κs. search needs) (λ c κs. search needs) (λ c κs. search needs) (λ c. search needs)
     (λ c κs. search needs) (λ c κs. search needs) (λ c. search needs) (λ c κs. search needs) (λ c κs. search needs)
     (λ c. search needs) (λ c κs. search needs) (λ c κs. search needs) (λ c. search needs) (λ c κs. search needs)
-    (λ c. search needs) (λ c κs. search needs) returns returns-2 returns-3 returns-4 returns-5 returns-6 returns-7
-    returns-8 returns-9 returns-10 returns-11 returns-12 returns-13 returns-14 returns-15 returns-16 returns-17)
+    (λ c. search needs) (λ c κs. search needs) (λ c. search needs) (λ c κs. search needs) (λ c κs. search needs)
+    (λ c κs. search needs) (λ c. search needs) (λ c κs. search needs) (λ c κs. search needs) returns returns-2
+    returns-3 returns-4 returns-5 returns-6 returns-7 returns-8 returns-9 returns-10 returns-11 returns-12 returns-13
+    returns-14 returns-15 returns-16 returns-17 returns-18 returns-19)

@@ -54,7 +54,15 @@ returns-12 c = simp (c .match .keys12)
 
 returns-13 : tie.Need-returns-13
 unfolding decode
-returns-13 c =
+returns-13 c = simp (c .match .keys13)
+
+returns-14 : tie.Need-returns-14
+unfolding decode
+returns-14 c = simp (c .match .keys14)
+
+returns-15 : tie.Need-returns-15
+unfolding decode
+returns-15 c =
     simp (
       ne-eqb _ _ (c .match .rest .1),
       ne-eqb _ _ (c .match .rest .0 .1),
@@ -68,6 +76,8 @@ returns-13 c =
       ne-eqb _ _ (c .match .rest .0 .0 .0 .0 .0 .0 .0 .0 .0 .1),
       ne-eqb _ _ (c .match .rest .0 .0 .0 .0 .0 .0 .0 .0 .0 .0 .1),
       ne-eqb _ _ (c .match .rest .0 .0 .0 .0 .0 .0 .0 .0 .0 .0 .0 .1),
+      ne-eqb _ _ (c .match .rest .0 .0 .0 .0 .0 .0 .0 .0 .0 .0 .0 .0 .1),
+      ne-eqb _ _ (c .match .rest .0 .0 .0 .0 .0 .0 .0 .0 .0 .0 .0 .0 .0 .1),
     )
 
 pub decode-spec : {M : Type 1} → statement M
@@ -86,4 +96,6 @@ decode-spec =
     returns-10
     returns-11
     returns-12
-    returns-13)
+    returns-13
+    returns-14
+    returns-15)

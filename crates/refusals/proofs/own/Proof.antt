@@ -38,7 +38,7 @@ returns-7 c = simp (c .when5 .ensures, c .before .in-standby .ensures, c .before
 returns-8 : tie.Need-returns-8
 returns-8 c =
     simp (
-      c .standby-refusal .ensures,
+      c .active-refusal .ensures,
       c .before .sends-command .ensures,
       c .before .before .is-active .ensures,
       c .before .before .before .enum-told5 .given .1,
@@ -71,6 +71,18 @@ returns-16 c = simp (c .enum-told12 .given .1)
 returns-17 : tie.Need-returns-17
 returns-17 c = simp (c .enum-told13 .given .1)
 
+returns-18 : tie.Need-returns-18
+returns-18 c = simp (c .when9 .ensures, c .before .before .a5 .given .1)
+
+returns-19 : tie.Need-returns-19
+returns-19 c =
+    simp (
+      c .active-refusal2 .ensures,
+      c .before .sends-command3 .ensures,
+      c .before .before .is-active2 .ensures,
+      c .before .before .before .enum-told14 .given .1,
+    )
+
 pub own-spec : {M : Type 1} → statement M
 own-spec =
     tie.close
@@ -82,5 +94,7 @@ own-spec =
     (λ c κs. search needs) (λ c κs. search needs) (λ c κs. search needs) (λ c. search needs) (λ c κs. search needs)
     (λ c. search needs) (λ c κs. search needs) (λ c κs. search needs) (λ c. search needs) (λ c. search needs)
     (λ c κs. search needs) (λ c. search needs) (λ c κs. search needs) (λ c. search needs) (λ c. search needs)
-    (λ c. search needs) (λ c. search needs) returns returns-2 returns-3 returns-4 returns-5 returns-6 returns-7
-    returns-8 returns-9 returns-10 returns-11 returns-12 returns-13 returns-14 returns-15 returns-16 returns-17)
+    (λ c. search needs) (λ c. search needs) (λ c. search needs) (λ c κs. search needs) (λ c. search needs)
+    (λ c κs. search needs) (λ c κs. search needs) (λ c κs. search needs) returns returns-2 returns-3 returns-4
+    returns-5 returns-6 returns-7 returns-8 returns-9 returns-10 returns-11 returns-12 returns-13 returns-14 returns-15
+    returns-16 returns-17 returns-18 returns-19)

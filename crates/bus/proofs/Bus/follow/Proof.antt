@@ -14,10 +14,13 @@ returns-3 c = simp (c .attend .ensures, c .before .with-party .ensures, c .befor
 returns-4 : tie.Need-returns-4
 returns-4 c = simp (c .clear-all .ensures, c .before .enum-told3 .given .1)
 
+returns-5 : tie.Need-returns-5
+returns-5 c = simp (c .poll .ensures, c .before .enum-told4 .given .1)
+
 pub follow-spec : {M : Type 1} → statement M
 follow-spec =
     tie.close
     (tie.spec
     (λ c. search needs) (λ c κs. search needs) (λ c. search needs) (λ c κs. search needs) (λ c. search needs)
-    (λ c κs. search needs) (λ c κs. search needs) (λ c. search needs) (λ c κs. search needs) returns returns-2
-    returns-3 returns-4)
+    (λ c κs. search needs) (λ c κs. search needs) (λ c. search needs) (λ c κs. search needs) (λ c. search needs)
+    (λ c κs. search needs) returns returns-2 returns-3 returns-4 returns-5)

@@ -5,15 +5,16 @@ use Rattle.image.proofs.reading.party_of.Tie as tie
 returns : tie.Need-returns
 returns c =
     simp (
-      c .flag2 .ensures,
-      c .before .slot-of2 .ensures,
-      c .before .before .slot-of .ensures,
-      c .before .before .before .acceptor-of .ensures,
-      c .before .before .before .before .source-of .ensures,
-      c .before .before .before .before .before .control-of .ensures,
-      c .before .before .before .before .before .before .service-of .ensures,
-      c .before .before .before .before .before .before .before .flag .ensures,
-      c .before .before .before .before .before .before .before .before .role-of .ensures,
+      c .flag3 .ensures,
+      c .before .flag2 .ensures,
+      c .before .before .slot-of2 .ensures,
+      c .before .before .before .slot-of .ensures,
+      c .before .before .before .before .acceptor-of .ensures,
+      c .before .before .before .before .before .source-of .ensures,
+      c .before .before .before .before .before .before .control-of .ensures,
+      c .before .before .before .before .before .before .before .service-of .ensures,
+      c .before .before .before .before .before .before .before .before .flag .ensures,
+      c .before .before .before .before .before .before .before .before .before .role-of .ensures,
     )
 
 pub party-of-spec : {M : Type 1} → statement M
@@ -24,4 +25,5 @@ party-of-spec =
     (λ c. search needs) (λ c κs. search needs) (λ c. search needs) (λ c κs. search needs) (λ c. search needs)
     (λ c κs. search needs) (λ c. search needs) (λ c κs. search needs) (λ c. search needs) (λ c. search needs)
     (λ c. search needs) (λ c κs. search needs) (λ c. search needs) (λ c. search needs) (λ c. search needs)
-    (λ c κs. search needs) (λ c. search needs) (λ c κs. search needs) returns)
+    (λ c κs. search needs) (λ c. search needs) (λ c κs. search needs) (λ c. search needs) (λ c κs. search needs)
+    returns)

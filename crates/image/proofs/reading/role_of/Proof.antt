@@ -5,11 +5,12 @@ use Rattle.image.proofs.reading.role_of.Tie as tie
 returns : tie.Need-returns
 returns c =
     simp (
-      c .mark-of .ensures,
-      c .before .flag3 .ensures,
-      c .before .before .flag2 .ensures,
-      c .before .before .before .flag .ensures,
-      c .before .before .before .before .secondary-of .ensures,
+      c .response-of .ensures,
+      c .before .mark-of .ensures,
+      c .before .before .flag3 .ensures,
+      c .before .before .before .flag2 .ensures,
+      c .before .before .before .before .flag .ensures,
+      c .before .before .before .before .before .secondary-of .ensures,
     )
 
 pub role-of-spec : {M : Type 1} → statement M
@@ -18,4 +19,4 @@ role-of-spec =
     (tie.spec
     (λ c. search needs) (λ c. search needs) (λ c. search needs) (λ c κs. search needs) (λ c. search needs)
     (λ c κs. search needs) (λ c. search needs) (λ c κs. search needs) (λ c. search needs) (λ c κs. search needs)
-    (λ c. search needs) (λ c κs. search needs) returns)
+    (λ c. search needs) (λ c κs. search needs) (λ c. search needs) (λ c. search needs) (λ c κs. search needs) returns)

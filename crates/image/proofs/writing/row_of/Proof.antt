@@ -7,7 +7,8 @@ use Rattle.image.proofs.writing.row_of.Tie as tie
 
 returns : tie.Need-returns
 returns c =
-    let t = c .before in
+    let r = c .before .before in
+    let t = r .before .before in
     let s = t .before .before .before .before .before in
     let h = s .before .before .before .before .before .before in
     let k = h .before .before .before .before .before in
@@ -30,7 +31,10 @@ returns c =
     (t .before .before .secondary-number .ensures)
     (t .before .mark-number .ensures)
     (t .one9 .ensures .0)
-    (c .one10 .ensures .0)
+    (r .before .one10 .ensures .0)
+    (r .response-tag .ensures)
+    (c .before .response-line .ensures)
+    (c .one11 .ensures .0)
 
 pub row-of-spec : {M : Type 1} → statement M
 row-of-spec =
@@ -40,4 +44,5 @@ row-of-spec =
     (λ c κs. search needs) (λ c κs. search needs) (λ c κs. search needs) (λ c κs. search needs) (λ c κs. search needs)
     (λ c κs. search needs) (λ c κs. search needs) (λ c κs. search needs) (λ c κs. search needs) (λ c κs. search needs)
     (λ c κs. search needs) (λ c κs. search needs) (λ c κs. search needs) (λ c κs. search needs) (λ c κs. search needs)
-    (λ c κs. search needs) (λ c κs. search needs) (λ c κs. search needs) returns)
+    (λ c κs. search needs) (λ c κs. search needs) (λ c κs. search needs) (λ c κs. search needs) (λ c κs. search needs)
+    (λ c κs. search needs) returns)

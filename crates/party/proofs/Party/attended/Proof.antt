@@ -7,9 +7,10 @@ returns c =
     simp (
       c .with-role .ensures,
       c .before .with-mark .ensures,
-      c .before .before .with-source .ensures,
-      c .before .before .before .with-acceptor .ensures,
-      c .before .before .before .before .attended .ensures,
+      c .before .before .without-address .ensures,
+      c .before .before .before .with-source .ensures,
+      c .before .before .before .before .with-acceptor .ensures,
+      c .before .before .before .before .before .attended .ensures,
     )
 
 pub attended-spec : {M : Type 1} → statement M
@@ -17,4 +18,4 @@ attended-spec =
     tie.close
     (tie.spec
     (λ c κs. search needs) (λ c κs. search needs) (λ c κs. search needs) (λ c κs. search needs) (λ c κs. search needs)
-    returns)
+    (λ c κs. search needs) returns)

@@ -9,7 +9,7 @@ returns c =
       c .with-held .ensures,
       sym (c .before .before .is-active .ensures) ∙ c .before .if1 .taken,
       c .before .before .before .with-role .ensures,
-      c .before .before .before .before .unaddressed .ensures,
+      c .before .before .before .before .flags-off .ensures,
       c .before .before .before .before .before .with-control .ensures,
     )
 
@@ -18,7 +18,7 @@ returns-2 c =
     simp (
       sym (c .before .is-active .ensures) ∙ c .if1 .left,
       c .before .before .with-role .ensures,
-      c .before .before .before .unaddressed .ensures,
+      c .before .before .before .flags-off .ensures,
       c .before .before .before .before .with-control .ensures,
     )
 

@@ -13,6 +13,7 @@ returns c =
       c .before .before .before .before .before .with-request .ensures,
       c .before .before .before .before .before .before .with-rsv2 .ensures,
       c .before .before .before .before .before .before .before .with-latches .ensures,
+      c .before .before .before .before .before .before .before .before .with-feoi .ensures,
     )
 
 pub wiped-spec : {M : Type 1} → statement M
@@ -20,4 +21,4 @@ wiped-spec =
     tie.close
     (tie.spec
     (λ c κs. search needs) (λ c κs. search needs) (λ c κs. search needs) (λ c κs. search needs) (λ c κs. search needs)
-    (λ c κs. search needs) (λ c κs. search needs) (λ c κs. search needs) returns)
+    (λ c κs. search needs) (λ c κs. search needs) (λ c κs. search needs) (λ c κs. search needs) returns)

@@ -21,7 +21,12 @@ returns-11 : tie.Need-returns-11
 returns-11 c = simp (c .with-poll-mode2 .ensures, c .before .enum-told9 .given .1)
 
 returns-12 : tie.Need-returns-12
-returns-12 c = simp (c .seconded .ensures, c .before .owns-secondary .ensures, c .before .before .before .m3 .given .1)
+returns-12 c =
+    simp (
+      c .seconded .ensures,
+      c .before .owns-secondary .ensures,
+      c .before .before .before .m3 .given .1,
+    )
 
 pub addressed-spec : {M : Type 1} → statement M
 addressed-spec =
@@ -31,6 +36,8 @@ addressed-spec =
     (λ c κs. search needs) (λ c. search needs) (λ c κs. search needs) (λ c κs. search needs) (λ c. search needs)
     (λ c κs. search needs) (λ c. search needs) (λ c. search needs) (λ c. search needs) (λ c. search needs)
     (λ c. search needs) (λ c κs. search needs) (λ c. search needs) (λ c κs. search needs) (λ c. search needs)
-    (λ c κs. search needs) (λ c κs. search needs) (λ c. search needs) (λ c. search needs) returns-2 returns-3 returns-4
-    returns-5 (λ c. search needs) (λ c. search needs) (λ c. search needs) (λ c. search needs) returns-10 returns-11
-    returns-12 (λ c. search needs))
+    (λ c κs. search needs) (λ c κs. search needs) (λ c. search needs) (λ c. search needs) (λ c. search needs)
+    (λ c. simp (c .enum-told .given .1)) returns-2 returns-3 returns-4 returns-5 (λ c. simp (c .enum-told4 .given .1))
+    (λ c. simp (c .enum-told5 .given .1)) (λ c. simp (c .enum-told6 .given .1)) (λ c. simp (c .enum-told7 .given .1))
+    returns-10 returns-11 returns-12 (λ c. simp (c .enum-told10 .given .1)) (λ c. simp (c .enum-told11 .given .1))
+    (λ c. simp (c .enum-told12 .given .1)))

@@ -8,6 +8,9 @@ returns-2 c = simp (c .mark-set .ensures, c .before .owns .ensures, c .before .b
 returns-4 : tie.Need-returns-4
 returns-4 c = simp (c .mark-set2 .ensures, c .before .owns2 .ensures, c .before .before .before .m2 .given .1)
 
+returns-14 : tie.Need-returns-14
+returns-14 c = simp (c .configured-by .ensures, c .before .enum-told12 .given .1)
+
 pub mark-after-spec : {M : Type 1} → statement M
 mark-after-spec =
     tie.close
@@ -15,6 +18,9 @@ mark-after-spec =
     (λ c. search needs) (λ c. search needs) (λ c κs. search needs) (λ c κs. search needs) (λ c. search needs)
     (λ c. search needs) (λ c κs. search needs) (λ c κs. search needs) (λ c. search needs) (λ c. search needs)
     (λ c. search needs) (λ c. search needs) (λ c. search needs) (λ c. search needs) (λ c. search needs)
-    (λ c. search needs) (λ c. search needs) (λ c. search needs) returns-2 (λ c. search needs) returns-4
-    (λ c. search needs) (λ c. search needs) (λ c. search needs) (λ c. search needs) (λ c. search needs)
-    (λ c. search needs) (λ c. search needs) (λ c. search needs) (λ c. search needs))
+    (λ c. search needs) (λ c. search needs) (λ c. search needs) (λ c κs. search needs) (λ c. search needs)
+    (λ c. simp (c .enum-told .given .1)) returns-2 (λ c. simp (c .enum-told2 .given .1)) returns-4
+    (λ c. simp (c .enum-told3 .given .1)) (λ c. simp (c .enum-told4 .given .1)) (λ c. simp (c .enum-told5 .given .1))
+    (λ c. simp (c .enum-told6 .given .1)) (λ c. simp (c .enum-told7 .given .1)) (λ c. simp (c .enum-told8 .given .1))
+    (λ c. simp (c .enum-told9 .given .1)) (λ c. simp (c .enum-told10 .given .1)) (λ c. simp (c .enum-told11 .given .1))
+    returns-14 (λ c. simp (c .enum-told13 .given .1)))
