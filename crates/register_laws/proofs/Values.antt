@@ -16,7 +16,8 @@ use Rattle.registers.specs.Registers.{auxiliaryOf, commanded, standsFor}
 use Rattle.bus.specs.Types.{Act}
 use Rattle.bus.specs.Types.call-of
 use Rattle.bus.specs.Machine as m
-use Rattle.state_laws.proofs.Answers.{switchOf, Met, call-met}
+use Rattle.effect.specs.Calls.{switchOf}
+use Rattle.state_laws.proofs.Answers.{Met, call-met}
 use Rattle.register_laws.specs.Accesses.{AnyByte}
 
 -- a switch that comes of a byte is 0 or 1

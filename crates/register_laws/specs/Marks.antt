@@ -4,20 +4,20 @@
 use Prim.Native.Nat.{ℕ}
 use mathlib.Core.Path.{_≡_}
 use mathlib.Core.Bool.{Bool, true, false, cond, _||_}
-use mathlib.Core.List.{List, [], _∷_}
+use mathlib.Core.List.{List}
 use lib.Dec.{eqb}
 use Rattle.parties.specs.Places.{place}
-use Rattle.effect.specs.Calls.{isAccepted, actNumber}
+use Rattle.effect.specs.Calls.{actNumber}
 use Rattle.registers.specs.declared.Access.the-variants.{Write}
 use Rattle.bus.specs.declared.Bus.{Bus}
-use Rattle.bus.specs.Types.{Name, Full, Act, Call}
+use Rattle.bus.specs.Types.{Name, Full, Act}
 use Rattle.bus.specs.Types.ruling
-use Rattle.bus.specs.Types.call-of
 use Rattle.bus.specs.Record.{here}
 use Rattle.bus.specs.Machine as m
 use Rattle.bus.specs.Delivery.{Moment, history}
 use Rattle.runner.specs.Waiting.{TieOrder}
 use Rattle.runner.specs.Lists.{Item, ledBy, expanded, Start}
+use Rattle.turn_laws.specs.Told.{told}
 
 abbrev pub endMarkAt : Bus → ℕ → Bool
 endMarkAt b q = here b q .latches .feoi
@@ -27,16 +27,9 @@ endMarkAt b q = here b q .latches .feoi
 abbrev pub endMarkBy : Act → Bool → Bool
 endMarkBy a on = cond (eqb (actNumber a) 15) true (cond (eqb (actNumber a) 10 || eqb (actNumber a) 14) false on)
 
--- What an accepted call leaves of the mark of party q.
-abbrev pub endMarkAfter : ℕ → Call → Bool → Bool
-endMarkAfter q (call-of.Of p a) on = cond (eqb q (p .0)) (endMarkBy a on) on
-endMarkAfter q call-of.Lines on = on
-endMarkAfter q call-of.Drivers on = on
-
--- What a list tells of the mark of party q, which was on or off before. A refused call changes nothing.
+-- What a list tells of the mark of party q, which was on or off before.
 abbrev pub endMarkTold : ℕ → List Moment → Bool → Bool
-endMarkTold q [] on = on
-endMarkTold q (x ∷ xs) on = endMarkTold q xs (cond (isAccepted (x .answer .refusal)) (endMarkAfter q (x .call) on) on)
+endMarkTold q xs on = told endMarkBy q xs on
 
 -- From a start, over every list of calls and runs: a party is marked exactly where the list says so. Off at build.
 abbrev pub MarkedAsTold : Type 0

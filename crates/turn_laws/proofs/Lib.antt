@@ -10,6 +10,8 @@
 --
 -- Kept. What a call leaves of names and latches, on any bus: whatever a call does, and whatever follows on it.
 --
+-- Latched. So the latches of a party are what lists of calls tell of them.
+--
 -- Named. So no call changes a party's name.
 --
 -- AsBefore, Renumbered. The order by address is a matter of the names. Where the numbers go with the addresses it is
@@ -20,6 +22,7 @@ pub mod Local
 pub mod Noacc
 pub mod OnOffer
 pub mod Kept
+pub mod Latched
 pub mod Named
 pub mod AsBefore
 pub mod Renumbered
