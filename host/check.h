@@ -105,14 +105,59 @@ static inline void give_turns(uint16_t turns)
     last = *bus;
 }
 
+/* The active party 0, at the lowest address of so many parties, sends one command. Its first, second and fourth turns
+ * offer, put and end it. */
+static inline void send_command(uint16_t parties, uint8_t byte)
+{
+    EXPECT(NONE, meskvorn_bus_write(bus, 0, byte, 0));
+    give_turns((uint16_t)(4 * parties));
+    EXPECT("0 lines b0 0 0 0", meskvorn_bus_lines(bus));
+    EXPECT(NONE, meskvorn_bus_drop(bus, 0));
+}
+
+/* Commands in hexadecimal. */
+static inline void send_commands(uint16_t parties, const char *text)
+{
+    char *end;
+    unsigned long byte = strtoul(text, &end, 16);
+    while (end != text) {
+        send_command(parties, (uint8_t)byte);
+        text = end;
+        byte = strtoul(text, &end, 16);
+    }
+}
+
+/* For each party T if it talks, L if it listens, else a dot, told by copies of the bus: listen-only is refused with 4
+ * to a talker, and talk-only to a listener. */
+static inline void expect_roles_at(int line, const char *wanted)
+{
+    char roles[16] = {0};
+    uint8_t party;
+    for (party = 0; party < strlen(wanted); party++) {
+        meskvorn_bus to_listen = *bus, to_talk = *bus;
+        int talks = meskvorn_bus_listen_only(&to_listen, party, 1).refusal == MESKVORN_REFUSAL_ROLE;
+        int listens = meskvorn_bus_talk_only(&to_talk, party, 1).refusal == MESKVORN_REFUSAL_ROLE;
+        roles[party] = talks ? 'T' : listens ? 'L' : '.';
+    }
+    check_at(line, strcmp(roles, wanted) == 0, roles);
+}
+
+#define EXPECT_ROLES(wanted) expect_roles_at(__LINE__, (wanted))
+
+/* The next byte of a generator. */
+static inline uint8_t drawn(uint16_t *state)
+{
+    *state = (uint16_t)(25173u * *state + 13849u);
+    return (uint8_t)(*state >> 8);
+}
+
 /* Fills the bus with bytes that a generator mixes, so that parties differ; of each the bits of the mask are kept. */
 static inline void mix(uint16_t *state, uint8_t mask)
 {
     uint8_t *bytes = (uint8_t *)bus;
     size_t at;
     for (at = 0; at < sizeof *bus; at++) {
-        *state = (uint16_t)(25173u * *state + 13849u);
-        bytes[at] = (uint8_t)(*state >> 8 & mask);
+        bytes[at] = drawn(state) & mask;
     }
 }
 

@@ -2,9 +2,9 @@
  * target/staticlib.
  *
  * meskvorn_call, meskvorn_build, meskvorn_build_extended, meskvorn_read_register, meskvorn_write_register,
- * meskvorn_name, meskvorn_turns, meskvorn_drivers and meskvorn_run are the proved functions, for pointers that are
- * valid for their lengths and do not overlap. The inline functions below them take the answer apart and take NULL as
- * well; they are tested. */
+ * meskvorn_own_status, meskvorn_parallel_poll, meskvorn_name, meskvorn_turns, meskvorn_drivers and meskvorn_run are the
+ * proved functions, for pointers that are valid for their lengths and do not overlap. The inline functions below them
+ * take the answer apart and take NULL as well; they are tested. */
 #ifndef MESKVORN_H
 #define MESKVORN_H
 
@@ -103,6 +103,10 @@ enum {
     MESKVORN_AUX_SET = 128
 };
 
+/* The commands of a parallel poll. A listener that hears PPC is configuring. It then gets a response by PPE, plus
+ * MESKVORN_PPE_SENSE for the sense 1, plus its line, 1 to 8, minus one; PPD takes it back. PPU takes everybody's. */
+enum { MESKVORN_PPC = 0x05, MESKVORN_PPU = 0x15, MESKVORN_PPE = 0x60, MESKVORN_PPE_SENSE = 8, MESKVORN_PPD = 0x70 };
+
 /* The lines, by their place among the masks and counts of meskvorn_drivers. */
 typedef enum meskvorn_line {
     MESKVORN_DRIVERS_OF_ATN = 0,
@@ -173,6 +177,11 @@ uint64_t meskvorn_build_extended(uint8_t (*rows)[MESKVORN_ROW], const uint8_t *a
  * next accepted write to data out, unless a reset comes before. */
 uint64_t meskvorn_read_register(uint8_t (*rows)[MESKVORN_ROW], uint8_t party, uint8_t offset);
 uint64_t meskvorn_write_register(uint8_t (*rows)[MESKVORN_ROW], uint8_t party, uint8_t offset, uint8_t value);
+
+/* A party's own status in parallel polls, 0 or 1, and a poll by the active party, whose byte has a bit for each line,
+ * line 1 lowest. Both answer with a number like the first three, and no operation of meskvorn_call stands for them. */
+uint64_t meskvorn_own_status(uint8_t (*rows)[MESKVORN_ROW], uint8_t party, uint8_t value);
+uint64_t meskvorn_parallel_poll(uint8_t (*rows)[MESKVORN_ROW], uint8_t party);
 
 /* What a build named the party: the low byte is its address, the high byte its secondary address or
  * MESKVORN_NO_SECONDARY. */
@@ -353,6 +362,24 @@ static inline meskvorn_answer meskvorn_bus_write_register(meskvorn_bus *bus, uin
         return meskvorn_answer_of(MESKVORN_REFUSAL_RECORD);
     }
     return meskvorn_answer_of(meskvorn_write_register(bus->rows, party, offset, value));
+}
+
+/* What the party tells in parallel polls, 0 or 1: its line is on while this is the sense of its response. */
+static inline meskvorn_answer meskvorn_bus_own_status(meskvorn_bus *bus, uint8_t party, uint8_t status)
+{
+    if (bus == NULL) {
+        return meskvorn_answer_of(MESKVORN_REFUSAL_RECORD);
+    }
+    return meskvorn_answer_of(meskvorn_own_status(bus->rows, party, status));
+}
+
+/* For the active party alone, with no command of its own standing. */
+static inline meskvorn_answer meskvorn_bus_parallel_poll(meskvorn_bus *bus, uint8_t party)
+{
+    if (bus == NULL) {
+        return meskvorn_answer_of(MESKVORN_REFUSAL_RECORD);
+    }
+    return meskvorn_answer_of(meskvorn_parallel_poll(bus->rows, party));
 }
 
 /* Which parties drive each line. With a NULL bus all masks and counts are 0. */

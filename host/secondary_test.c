@@ -17,43 +17,10 @@ static void take_the_bus(void)
     EXPECT(NONE, meskvorn_bus_interface_clear(bus, 0));
 }
 
-/* The active party 0 sends one command. Its first, second and fourth turns offer, put and end it. */
-static void command(uint8_t byte)
-{
-    EXPECT(NONE, meskvorn_bus_write(bus, 0, byte, 0));
-    give_turns(4 * PARTIES);
-    EXPECT("0 lines b0 0 0 0", meskvorn_bus_lines(bus));
-    EXPECT(NONE, meskvorn_bus_drop(bus, 0));
-}
-
-/* Commands in hexadecimal. */
 static void commands(const char *text)
 {
-    char *end;
-    unsigned long byte = strtoul(text, &end, 16);
-    while (end != text) {
-        command((uint8_t)byte);
-        text = end;
-        byte = strtoul(text, &end, 16);
-    }
+    send_commands(PARTIES, text);
 }
-
-/* T for a party that talks, L for one that listens, else a dot, told by copies of the bus: listen-only is refused with
- * 4 to a talker, and talk-only to a listener. */
-static void expect_roles_at(int line, const char *wanted)
-{
-    char roles[PARTIES + 1] = {0};
-    uint8_t party;
-    for (party = 0; party < PARTIES; party++) {
-        meskvorn_bus to_listen = *bus, to_talk = *bus;
-        int talks = meskvorn_bus_listen_only(&to_listen, party, 1).refusal == MESKVORN_REFUSAL_ROLE;
-        int listens = meskvorn_bus_talk_only(&to_talk, party, 1).refusal == MESKVORN_REFUSAL_ROLE;
-        roles[party] = talks ? 'T' : listens ? 'L' : '.';
-    }
-    check_at(line, strcmp(roles, wanted) == 0, roles);
-}
-
-#define EXPECT_ROLES(wanted) expect_roles_at(__LINE__, (wanted))
 
 static void expect_after_at(int line, const char *wanted, const char *text)
 {

@@ -4,6 +4,7 @@
 mod answer;
 mod drivers;
 mod name;
+pub mod parallel_poll;
 pub mod registers;
 
 pub use answer::{Answer, Event, Refusal, Turns, MOST_PARTIES};
@@ -31,6 +32,8 @@ extern "C" {
     fn meskvorn_name(rows: *const Row, party: u8) -> u16;
     fn meskvorn_read_register(rows: *mut Row, party: u8, offset: u8) -> u64;
     fn meskvorn_write_register(rows: *mut Row, party: u8, offset: u8, value: u8) -> u64;
+    fn meskvorn_own_status(rows: *mut Row, party: u8, value: u8) -> u64;
+    fn meskvorn_parallel_poll(rows: *mut Row, party: u8) -> u64;
     fn meskvorn_turns(rows: *mut Row, turns: u16, counts: *mut u16) -> u8;
     fn meskvorn_drivers(rows: *mut Row, masks: *mut u16, counts: *mut u32) -> u64;
     fn meskvorn_run(script: *const u8, length: usize, out: *mut u8, room: usize) -> usize;
@@ -224,6 +227,20 @@ impl Bus {
     pub fn write_register(&mut self, party: u8, offset: u8, value: u8) -> Answer {
         // SAFETY: the rows are this bus's own.
         Answer::of(unsafe { meskvorn_write_register(self.rows.as_mut_ptr(), party, offset, value) })
+    }
+
+    /// What the party tells in parallel polls: its line is on while this is the sense of its response, which
+    /// the commands in [`parallel_poll`] set.
+    pub fn own_status(&mut self, party: u8, on: bool) -> Answer {
+        // SAFETY: the rows are this bus's own.
+        Answer::of(unsafe { meskvorn_own_status(self.rows.as_mut_ptr(), party, on.into()) })
+    }
+
+    /// For the active party alone, with no command of its own standing. The answer's byte has a bit for each
+    /// of the eight lines, line 1 lowest.
+    pub fn parallel_poll(&mut self, party: u8) -> Answer {
+        // SAFETY: the rows are this bus's own.
+        Answer::of(unsafe { meskvorn_parallel_poll(self.rows.as_mut_ptr(), party) })
     }
 
     /// Which parties drive each line, and how many they are. Never refused.
