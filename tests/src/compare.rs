@@ -8,11 +8,13 @@ pub mod builds;
 mod call_by_call;
 mod difference;
 pub mod memory;
+pub mod polls_in_memory;
 pub mod product;
 mod shrink;
 pub mod subject;
 pub mod vectors;
 pub mod whole_run;
+pub mod without_polls;
 mod words;
 
 pub use difference::Difference;
@@ -54,7 +56,7 @@ fn compare_text(subject: &mut dyn Subject, list: &[u8]) -> Result<(), Difference
     Ok(())
 }
 
-/// Compares one list in both ways; counts what came.
+/// Compares one list in both ways, and without its polls; counts what came.
 pub fn compare(
     subject: &mut dyn Subject,
     list: &[u8],
@@ -62,7 +64,8 @@ pub fn compare(
 ) -> Result<(), Difference> {
     let both = || {
         if list.len() <= LONGEST {
-            call_by_call::compare_calls(subject, list, tally)?;
+            let told = call_by_call::compare_calls(subject, list, tally)?;
+            without_polls::compare_without_polls(subject, list, &told)?;
         }
         compare_text(subject, list)
     };

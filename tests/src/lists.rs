@@ -9,6 +9,7 @@ pub mod hex;
 pub mod kinds_of_state;
 pub mod likely_accesses;
 pub mod likely_arguments;
+pub mod likely_poll_calls;
 pub mod pieces;
 pub mod random_numbers;
 pub mod random_racks;

@@ -18,7 +18,7 @@ use meskvorn_tests::lists::every_access::Values;
 use meskvorn_tests::model::script;
 
 const SEED: u64 = 488;
-const GATE_RECORDS: u64 = 25_000_000;
+const GATE_RECORDS: u64 = 27_000_000;
 
 /// The thing under test.
 fn subject() -> Box<dyn Subject> {

@@ -5,6 +5,7 @@ mod drivers;
 mod end_marks;
 mod machine;
 mod noacc;
+mod parallel_polls;
 mod registers;
 mod runs;
 mod second_requests;
@@ -15,6 +16,7 @@ pub use builds::{BuildFault, LENGTH_FAULTS, NAME_FAULTS};
 pub use drivers::{DriversFault, Shows, DRIVERS_FAULTS};
 pub use end_marks::{EndMarkFault, END_MARK_FAULTS};
 pub use machine::MACHINE_FAULTS;
+pub use parallel_polls::{poll_faults, PollCallFault, PollFault};
 pub use registers::{AccessFault, ACCESS_FAULTS};
 pub use runs::{RunFault, WrongRun, RUN_FAULTS};
 pub use second_requests::REQUEST_FAULTS;
@@ -24,7 +26,7 @@ pub use turn_orders::{OrderFault, ORDER_FAULTS, UNBUILT_ORDER_FAULTS};
 use crate::compare::subject::{like_lines_by, try_accesses_by, try_run_by, Subject};
 use crate::lists::{pieces, stands_for};
 use crate::model::script::{self, Call, Record, STEP};
-use crate::model::{Access, Answer, Bus, Drivers, Lists, Name, Party, Turns};
+use crate::model::{Access, Answer, Bus, Drivers, Lists, Name, Party, PollCall, Turns};
 
 /// Takes the bus to alter, the bus before the call, the call, and the answer to alter.
 pub type Fault = fn(&mut Bus, &Bus, Record, &mut Answer);
@@ -44,24 +46,28 @@ fn was(before: &Bus, call: Record) -> &Party {
     &before.parties[usize::from(call[3])]
 }
 
-/// The model, whose bus and answer a fault alters after each call, or whose build, call for drivers
-/// or access is wrong.
+/// The model, whose bus and answer a fault alters after each call, or whose build, call for drivers,
+/// access, own status or parallel poll is wrong.
 pub struct Wrong {
     pub bus: Bus,
+    aside: Bus,
     fault: Fault,
     build: BuildFault,
     drivers: DriversFault,
     access: AccessFault,
+    poll_call: PollCallFault,
 }
 
 impl Wrong {
     pub fn new(fault: Fault) -> Wrong {
         Wrong {
             bus: Bus::new(),
+            aside: Bus::new(),
             fault,
             build: BuildFault::OfLengths(Bus::build_extended),
             drivers: Bus::drivers,
             access: Bus::access,
+            poll_call: Bus::poll_call,
         }
     }
 
@@ -94,6 +100,17 @@ impl Wrong {
         match fault {
             EndMarkFault::OfAccess(access) => Wrong::accessed(access),
             EndMarkFault::OfCall(fault) => Wrong::new(fault),
+        }
+    }
+
+    /// Every call is right but for what it does to parallel polls.
+    pub fn polling(fault: PollFault) -> Wrong {
+        match fault {
+            PollFault::OfPollCall(poll_call) => Wrong {
+                poll_call,
+                ..Wrong::new(|_, _, _, _| {})
+            },
+            PollFault::OfCall(fault) => Wrong::new(fault),
         }
     }
 
@@ -202,6 +219,21 @@ impl Subject for Wrong {
         let access = |bus: &mut Bus, own| faulty_access(bus, self.fault, own, self.access);
         let call = |bus: &mut Bus, own| faulty_call(bus, self.fault, own);
         try_accesses_by(&self.bus, accesses, calls, access, call)
+    }
+
+    fn poll_call(&mut self, call: PollCall) -> Answer {
+        let (poll_call, record) = (self.poll_call, pieces::poll_call(call));
+        faulty(&mut self.bus, self.fault, record, |bus| {
+            poll_call(bus, call)
+        })
+    }
+
+    fn lay_aside(&mut self) {
+        self.aside = self.bus;
+    }
+
+    fn is_as_laid_aside(&self) -> bool {
+        self.bus == self.aside
     }
 
     fn record(&mut self, record: Record) -> Answer {

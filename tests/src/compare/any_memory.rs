@@ -1,21 +1,24 @@
-//! Calls, runs and accesses on memory of any content, be it such as no build gives: what is refused
-//! leaves every byte as it was. And the order of runs there, by a module of its own.
+//! Calls, runs, accesses, own statuses and parallel polls on memory of any content, be it such as no build
+//! gives: what is refused leaves every byte as it was. And the order of runs and the lines of polls there, by
+//! modules of their own.
 
 use meskvorn::Bus;
 
 use super::memory::{bus_in, Rows, ROW};
 use super::product::{self, Product};
-use super::{any_order, subject, words};
+use super::{any_order, polls_in_memory, subject, words};
 use crate::lists::guided::Guided;
 use crate::lists::likely_accesses::any_access;
+use crate::lists::likely_poll_calls::any_poll_call;
 use crate::lists::random_numbers::Random;
 use crate::model::script::{Call, LAST_OPERATION};
-use crate::model::{Access, Refusal};
+use crate::model::{Access, PollCall, Refusal};
 
 const SAMPLES: usize = 3000;
 const CONTENTS: usize = 200_000;
 const CALLS_EACH: usize = 8;
 const ACCESSES_EACH: usize = 8;
+const POLL_CALLS_EACH: usize = 3;
 
 /// Fewer of a refusal, or of a sort of names, would say little.
 pub(super) const LEAST: u64 = 100;
@@ -46,6 +49,17 @@ const OF_ACCESSES: [Refusal; 9] = [
     Refusal::NoReg,
 ];
 
+/// Of an own status.
+const OF_STATUSES: [Refusal; 3] = [Refusal::Accepted, Refusal::NoParty, Refusal::BadValue];
+
+/// Of a parallel poll.
+const OF_POLLS: [Refusal; 4] = [
+    Refusal::Accepted,
+    Refusal::NoParty,
+    Refusal::Role,
+    Refusal::Standing,
+];
+
 /// And of a run.
 const OF_RUNS: [Refusal; 2] = [Refusal::Accepted, Refusal::NoParty];
 
@@ -55,6 +69,7 @@ pub trait InMemory: Clone + PartialEq {
     fn call(&mut self, call: Call) -> Refusal;
     fn give_turns(&mut self, turns: u16) -> Refusal;
     fn access(&mut self, access: Access) -> Refusal;
+    fn poll_call(&mut self, call: PollCall) -> Refusal;
 }
 
 impl InMemory for Bus {
@@ -73,6 +88,10 @@ impl InMemory for Bus {
     fn access(&mut self, access: Access) -> Refusal {
         Refusal::ALL[product::access(self, access).refusal as usize]
     }
+
+    fn poll_call(&mut self, call: PollCall) -> Refusal {
+        product::poll_call(self, call).refusal
+    }
 }
 
 /// How often each refusal came.
@@ -83,15 +102,19 @@ pub struct Met {
     pub calls: Counts,
     pub runs: Counts,
     pub accesses: Counts,
+    pub statuses: Counts,
+    pub polls: Counts,
 }
 
 impl Met {
     /// What did not come often enough.
     pub fn missing(&self) -> Vec<String> {
-        let met: [(&str, &Counts, &[Refusal]); 3] = [
+        let met: [(&str, &Counts, &[Refusal]); 5] = [
             ("calls", &self.calls, &OF_CALLS),
             ("runs", &self.runs, &OF_RUNS),
             ("accesses", &self.accesses, &OF_ACCESSES),
+            ("own statuses", &self.statuses, &OF_STATUSES),
+            ("parallel polls", &self.polls, &OF_POLLS),
         ];
         let few = met.iter().flat_map(|(what, counts, refusals)| {
             let few = refusals.iter().filter(|own| counts[**own as usize] < LEAST);
@@ -101,11 +124,19 @@ impl Met {
     }
 
     pub fn print(&self) {
-        println!("on memory of any content, calls, runs and accesses");
-        for (refusal, calls) in self.calls.iter().enumerate() {
-            let (word, runs) = (Refusal::WORDS[refusal], self.runs[refusal]);
-            let accesses = self.accesses[refusal];
-            println!("{refusal:>3} {word:<10} {calls:>12} {runs:>12} {accesses:>12}");
+        println!(
+            "on memory of any content, calls, runs, accesses, own statuses and parallel polls"
+        );
+        let counts = [
+            &self.calls,
+            &self.runs,
+            &self.accesses,
+            &self.statuses,
+            &self.polls,
+        ];
+        for (refusal, word) in Refusal::WORDS.iter().enumerate() {
+            let counts = counts.map(|counts| format!("{:>10}", counts[refusal]));
+            println!("{refusal:>3} {word:<10} {}", counts.join(""));
         }
     }
 }
@@ -185,6 +216,15 @@ pub fn run<B: InMemory>(samples: &[Rows], seed: u64) -> Result<Met, String> {
             let tried = try_on(&bus, &mut met.accesses, |bus| bus.access(access));
             tried.map_err(|refusal| story(words::access(access), refusal))?;
         }
+        for _ in 0..POLL_CALLS_EACH {
+            let call = any_poll_call(&mut random);
+            let counts = match call {
+                PollCall::OwnStatus { .. } => &mut met.statuses,
+                PollCall::Poll { .. } => &mut met.polls,
+            };
+            let tried = try_on(&bus, counts, |bus| bus.poll_call(call));
+            tried.map_err(|refusal| story(words::poll_call(call), refusal))?;
+        }
         let turns = random.below(40) as u16;
         let tried = try_on(&bus, &mut met.runs, |bus| bus.give_turns(turns));
         tried.map_err(|refusal| story(format!("a run of {turns} turns"), refusal))?;
@@ -209,10 +249,13 @@ fn compare_library(seed: u64) -> Result<Vec<String>, String> {
     met.print();
     let orders = any_order::run(&samples, seed, bus_in)?;
     orders.print();
-    Ok([met.missing(), orders.missing()].concat())
+    let polls = polls_in_memory::run(&samples, seed, bus_in)?;
+    polls.print();
+    Ok([met.missing(), orders.missing(), polls.missing()].concat())
 }
 
-/// The library. True if what it refused left every byte, its runs were their steps, and all came.
+/// The library. True if what it refused left every byte, its runs were their steps, its polls told the
+/// lines, and all came.
 pub fn run_library(seed: u64) -> bool {
     match compare_library(seed) {
         Err(story) => {

@@ -1,19 +1,20 @@
-//! Builds from lists in any order, without secondaries and with some, calls by number, and runs, drivers
-//! and accesses on such buses: no record can ask for these.
+//! Builds from lists in any order, without secondaries and with some, calls by number, and runs, drivers,
+//! accesses, own statuses and parallel polls on such buses: no record can ask for these.
 
 use super::subject::{self, Subject};
 use super::words;
 use crate::ledger::tally::Lengths;
-use crate::lists::command_codes::{self, LISTEN_ADDRESS};
+use crate::lists::command_codes::{self, LISTEN_ADDRESS, PPC, PPE};
 use crate::lists::likely_accesses::any_access;
 use crate::lists::likely_arguments::likely_turns;
+use crate::lists::likely_poll_calls::any_poll_call;
 use crate::lists::pieces;
 use crate::lists::random_numbers::Random;
 use crate::lists::random_racks;
 use crate::model::script::{
     self, Call, Record, BUILD, CLEAR, LAST_OPERATION, LINES, STEP, TALK, WRITE,
 };
-use crate::model::{Access, Answer, Bus, Lists, Name, MOST_PARTIES};
+use crate::model::{Access, Answer, Bus, Lists, Name, PollCall, MOST_PARTIES};
 
 const LISTS: usize = 20_000;
 const CALLS_AFTER: usize = 30;
@@ -124,6 +125,13 @@ impl Pair<'_> {
         self.agree(model, subject)
     }
 
+    fn poll_call(&mut self, call: PollCall) -> Done {
+        self.calls.push(pieces::poll_call(call));
+        let model = self.bus.poll_call(call);
+        let subject = self.subject.poll_call(call);
+        self.agree(model, subject)
+    }
+
     fn drivers(&mut self) -> Done {
         self.calls.push(pieces::DRIVERS);
         let model = self.bus.drivers();
@@ -136,18 +144,27 @@ impl Pair<'_> {
     }
 
     /// The system party makes one party listen. Talk-only then tells who does: it is refused with 4
-    /// to a listener, and with 5 to all others.
+    /// to a listener, and with 5 to all others. And it gives it a response, which a poll tells.
     fn address_one(&mut self, random: &mut Random) -> Done {
         let system = self.built.1;
         let name = self.bus.parties[random.below(self.bus.count)].name;
         self.call([CLEAR, system, 0, 0])?;
         for command in command_codes::addressing(LISTEN_ADDRESS, name) {
-            self.call([WRITE, system, command, 0])?;
-            for _ in 0..ROUNDS_A_COMMAND {
-                self.every_party(STEP, 0)?;
-            }
+            self.command(command)?;
         }
-        self.every_party(TALK, 1)
+        self.every_party(TALK, 1)?;
+        self.command(PPC)?;
+        self.command(PPE + random.below(16) as u8)?;
+        self.poll_call(PollCall::Poll { party: system })
+    }
+
+    /// The system party sends it to its end.
+    fn command(&mut self, command: u8) -> Done {
+        self.call([WRITE, self.built.1, command, 0])?;
+        for _ in 0..ROUNDS_A_COMMAND {
+            self.every_party(STEP, 0)?;
+        }
+        Ok(())
     }
 
     fn every_party(&mut self, operation: u8, value: u8) -> Done {
@@ -173,6 +190,9 @@ impl Pair<'_> {
             ])?;
             if random.per_mille(200) {
                 self.access(any_access(random))?;
+            }
+            if random.per_mille(200) {
+                self.poll_call(any_poll_call(random))?;
             }
         }
         Ok(())

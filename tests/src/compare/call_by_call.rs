@@ -1,15 +1,15 @@
 //! One list on kept buses, call by call: model, ledger and subject side by side.
 
 use super::alike::{alike, Alike};
-use super::subject::{self, Subject};
+use super::subject::{self, Subject, Told};
 use super::Difference;
 use crate::ledger::bound::Start;
 use crate::ledger::tally::Tally;
-use crate::ledger::{EndMarks, Ledger, Requests};
+use crate::ledger::{EndMarks, Ledger, ParallelPolls, Requests};
 use crate::lists::pieces::{self, Piece};
 use crate::lists::stands_for;
 use crate::model::script::{self, Record, BUILD, STEP};
-use crate::model::{Access, Answer, Bus, Lists, Refusal};
+use crate::model::{Access, Answer, Bus, Lists, PollCall, Refusal};
 
 type Done = Result<(), Difference>;
 
@@ -18,10 +18,13 @@ struct Walk<'a> {
     ledger: Ledger,
     requests: Requests,
     end_marks: EndMarks,
+    polls: ParallelPolls,
     subject: &'a mut dyn Subject,
     tally: &'a mut Tally,
     /// The piece of the list that is compared, from 1.
     number: usize,
+    /// What the subject has answered.
+    told: Vec<Told>,
 }
 
 impl Walk<'_> {
@@ -43,7 +46,11 @@ impl Walk<'_> {
         entered.map_err(|rule| Difference::Request { number, rule })?;
         let cases = &mut self.tally.end_marks;
         let entered = self.end_marks.enter(piece, answer, cases);
-        entered.map_err(|rule| Difference::EndMark { number, rule })
+        entered.map_err(|rule| Difference::EndMark { number, rule })?;
+        let cases = &mut self.tally.polls;
+        let polls = &mut self.polls;
+        let entered = polls.enter(before, piece, answer, &self.bus, cases);
+        entered.map_err(|rule| Difference::Poll { number, rule })
     }
 
     /// One call, whose answer by the subject is known; the books read it as a record or an access.
@@ -69,6 +76,7 @@ impl Walk<'_> {
 
     fn record(&mut self, record: Record) -> Done {
         let subject = self.subject.record(record);
+        self.told.push(Told::Answer(subject));
         self.agree(record, subject, |bus| script::run_record(bus, record))?;
         if record[2] == BUILD {
             self.agree_on_names()?;
@@ -79,6 +87,7 @@ impl Walk<'_> {
     fn build(&mut self, lists: &Lists, system: u8) -> Done {
         let as_record = pieces::build_of_lists(system);
         let subject = self.subject.build_extended(lists, system);
+        self.told.push(Told::Answer(subject));
         self.agree(as_record, subject, |bus| bus.build_extended(lists, system))?;
         self.tally.lengths.enter(lists, system);
         self.agree_on_names()
@@ -112,6 +121,7 @@ impl Walk<'_> {
             self.enter(&before, pieces::run(turns), &Answer::refused(model.refusal))?;
         }
         let subject = self.subject.give_turns(turns);
+        self.told.push(Told::Turns(subject));
         self.tally.count_run(&model);
         self.tally.ties.enter(&before, turns);
         self.tally.marks.enter_run(&before);
@@ -133,6 +143,7 @@ impl Walk<'_> {
         let (model, lines) = (before.clone().drivers(), before.clone().lines());
         let like_lines = self.subject.drivers_like_lines();
         let subject = self.subject.drivers();
+        self.told.push(Told::Drivers(Box::new(subject)));
         self.agree(pieces::DRIVERS, subject.answer, |bus| bus.drivers().answer)?;
         if model != subject {
             return Err(Difference::Drivers {
@@ -156,12 +167,30 @@ impl Walk<'_> {
         let Alike { accesses, calls } = alike(access, &self.bus);
         let (_, same) = self.subject.try_accesses(&accesses, &calls);
         let subject = self.subject.access(access);
+        self.told.push(Told::Answer(subject));
         self.tally.accesses.enter(access, subject.refusal);
         self.agree(pieces::access(access), subject, |bus| bus.access(access))?;
         if same {
             return Ok(());
         }
         Err(Difference::LikeCall { number })
+    }
+
+    /// An own status or a parallel poll. Only an accepted own status may change the bus.
+    fn poll_call(&mut self, asked: PollCall) -> Done {
+        let number = self.number;
+        self.subject.lay_aside();
+        let subject = self.subject.poll_call(asked);
+        self.told.push(Told::Answer(subject));
+        let may_change = subject.accepted() && matches!(asked, PollCall::OwnStatus { .. });
+        let left = may_change || self.subject.is_as_laid_aside();
+        self.agree(pieces::poll_call(asked), subject, |bus| {
+            bus.poll_call(asked)
+        })?;
+        if left {
+            return Ok(());
+        }
+        Err(Difference::Changes { number })
     }
 
     /// Tries the bound on copies, if it holds from here.
@@ -193,7 +222,11 @@ impl Walk<'_> {
             Piece::Run(turns) => self.run(*turns)?,
             Piece::Drivers => self.drivers()?,
             Piece::Access(access) => self.access(*access)?,
-            Piece::Address(_) | Piece::Secondary(_) => return Ok(true),
+            Piece::PollCall(asked) => self.poll_call(*asked)?,
+            Piece::Address(_) | Piece::Secondary(_) => {
+                self.told.push(Told::Nothing);
+                return Ok(true);
+            }
             Piece::Build(lists, system) => self.build(lists, *system)?,
             Piece::Record(record) => {
                 self.record(*record)?;
@@ -211,24 +244,31 @@ impl Walk<'_> {
     }
 }
 
-/// A whole list, up to the first bad record.
-pub fn compare_calls(subject: &mut dyn Subject, list: &[u8], tally: &mut Tally) -> Done {
+/// A whole list, up to the first bad record; what the subject answered to each piece so far.
+pub fn compare_calls(
+    subject: &mut dyn Subject,
+    list: &[u8],
+    tally: &mut Tally,
+) -> Result<Vec<Told>, Difference> {
     subject.start();
     let mut walk = Walk {
         bus: Bus::new(),
         ledger: Ledger::new(),
         requests: Requests::new(),
         end_marks: EndMarks::new(),
+        polls: ParallelPolls::new(),
         subject,
         tally,
         number: 0,
+        told: Vec::new(),
     };
     for piece in pieces::of_list(list) {
         walk.number += 1;
         if !walk.piece(&piece)? {
-            return Ok(());
+            return Ok(walk.told);
         }
     }
     // No call gives a party another name.
-    walk.agree_on_names()
+    walk.agree_on_names()?;
+    Ok(walk.told)
 }

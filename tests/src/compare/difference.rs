@@ -1,5 +1,7 @@
 //! What tells that model and subject are not alike, or that the model breaks a rule.
 
+use std::fmt::Debug;
+
 use super::words;
 use crate::model::{Answer, Drivers, Name, Turns};
 
@@ -63,7 +65,27 @@ pub enum Difference {
         number: usize,
         rule: &'static str,
     },
+    Poll {
+        number: usize,
+        rule: &'static str,
+    },
+    /// A parallel poll, or a refused own status, leaves another bus than it found.
+    Changes {
+        number: usize,
+    },
+    /// Without its parallel polls the list is answered otherwise, or leads to another bus.
+    WithoutPolls {
+        number: usize,
+    },
     Stopped,
+}
+
+fn both(model: impl Debug, subject: impl Debug) -> String {
+    format!("model {model:?}, subject {subject:?}")
+}
+
+fn broken(whose: &str, rule: &str) -> String {
+    format!("the model breaks {whose}: {rule}")
 }
 
 impl Difference {
@@ -80,9 +102,7 @@ impl Difference {
                 let (model, subject) = (words::answer(model), words::answer(subject));
                 format!("model {model}, subject {subject}")
             }
-            Difference::Turns { model, subject, .. } => {
-                format!("model {model:?}, subject {subject:?}")
-            }
+            Difference::Turns { model, subject, .. } => both(model, subject),
             Difference::Drivers { model, subject, .. } => {
                 let (model, subject) = (words::drivers(model), words::drivers(subject));
                 format!("model {model}; subject {subject}")
@@ -95,24 +115,25 @@ impl Difference {
                 subject,
                 ..
             } => {
-                format!("name of party {party}: model {model:?}, subject {subject:?}")
+                format!("name of party {party}: {}", both(model, subject))
             }
             Difference::Bus { .. } => "the run leaves another bus than its steps".to_string(),
             Difference::Bound { model, subject, .. } => {
-                format!("turns until the byte ends: model {model:?}, subject {subject:?}")
+                format!("turns until the byte ends: {}", both(model, subject))
             }
             Difference::Text {
                 line,
                 model,
                 subject,
             } => {
-                format!("text line {line}: model {model:?}, subject {subject:?}")
+                format!("text line {line}: {}", both(model, subject))
             }
-            Difference::Ledger { rule, .. } => format!("the model breaks demand 3: {rule}"),
-            Difference::Request { rule, .. } => format!("the model breaks Q-5's condition: {rule}"),
-            Difference::EndMark { rule, .. } => {
-                format!("the model breaks the rule of feoi: {rule}")
-            }
+            Difference::Ledger { rule, .. } => broken("demand 3", rule),
+            Difference::Request { rule, .. } => broken("Q-5's condition", rule),
+            Difference::EndMark { rule, .. } => broken("the rule of feoi", rule),
+            Difference::Poll { rule, .. } => broken("the rule of parallel polls", rule),
+            Difference::Changes { .. } => "the call changes the subject's bus".to_string(),
+            Difference::WithoutPolls { .. } => "the subject differs without polls".to_string(),
             Difference::Stopped => "a panic".to_string(),
         }
     }
@@ -130,7 +151,10 @@ impl Difference {
             | Difference::Bound { number, .. }
             | Difference::Ledger { number, .. }
             | Difference::Request { number, .. }
-            | Difference::EndMark { number, .. } => Some(*number),
+            | Difference::EndMark { number, .. }
+            | Difference::Poll { number, .. }
+            | Difference::Changes { number }
+            | Difference::WithoutPolls { number } => Some(*number),
             Difference::Text { .. } | Difference::Stopped => None,
         }
     }

@@ -1,5 +1,5 @@
-//! The library's bus as the memory that C programs have of it, with any content, and its build from two
-//! lists of any lengths. The wrapper for Rust programs hands out neither.
+//! The library's bus as the memory that C programs have of it, with any content, its build from two lists
+//! of any lengths, and an own status of any value. The wrapper for Rust programs hands out none of these.
 
 use std::mem::transmute;
 
@@ -26,6 +26,7 @@ extern "C" {
         given: usize,
         system: u8,
     ) -> u64;
+    fn meskvorn_own_status(rows: *mut [u8; ROW], party: u8, value: u8) -> u64;
 }
 
 /// The bus in these rows.
@@ -73,4 +74,13 @@ pub fn build_extended(lists: &Lists, system: u8) -> (Bus, Answer) {
         )
     };
     (bus_in(rows), answer_of(packed))
+}
+
+/// An own status on such a bus.
+pub fn own_status(bus: &mut Bus, party: u8, value: u8) -> Answer {
+    let mut rows = rows_of(bus);
+    // SAFETY: the rows are lent for the call.
+    let packed = unsafe { meskvorn_own_status(rows.as_mut_ptr(), party, value) };
+    *bus = bus_in(rows);
+    answer_of(packed)
 }

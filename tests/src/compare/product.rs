@@ -1,5 +1,5 @@
-//! The proved library under test, through the wrapper that Rust programs use; builds from lists that
-//! the wrapper does not give, as C programs make them.
+//! The proved library under test, through the wrapper that Rust programs use; builds from lists and own
+//! statuses that the wrapper does not give, as C programs make them.
 
 use meskvorn::Bus;
 
@@ -9,7 +9,7 @@ use crate::model::script::{
     Call, CLEAR, DROP, LINES, LISTEN, POLL, READ, RECORD, REQUEST, RESET, STANDBY, STEP, TAKE,
     TALK, WRITE,
 };
-use crate::model::{Access, Answer, Drivers, Event, Line, Lists, Name, Refusal, Turns};
+use crate::model::{Access, Answer, Drivers, Event, Line, Lists, Name, PollCall, Refusal, Turns};
 
 /// The room that there has to be for a line of text.
 const LINE: usize = 34;
@@ -20,6 +20,7 @@ const UNTOUCHED: u8 = 0xee;
 #[derive(Default)]
 pub struct Product {
     bus: Bus,
+    aside: Bus,
     buffer: Vec<u8>,
 }
 
@@ -29,7 +30,7 @@ impl Product {
     }
 }
 
-fn in_the_models_terms(answer: meskvorn::Answer) -> Answer {
+pub(super) fn in_the_models_terms(answer: meskvorn::Answer) -> Answer {
     Answer {
         refusal: Refusal::ALL[answer.refusal as usize],
         event: Event::ALL[answer.event as usize],
@@ -94,6 +95,17 @@ pub fn access(bus: &mut Bus, access: Access) -> meskvorn::Answer {
             offset,
             value,
         } => bus.write_register(party, offset, value),
+    }
+}
+
+/// By the wrapper where that has the value.
+pub fn poll_call(bus: &mut Bus, call: PollCall) -> Answer {
+    match call {
+        PollCall::Poll { party } => in_the_models_terms(bus.parallel_poll(party)),
+        PollCall::OwnStatus { party, value } if value < 2 => {
+            in_the_models_terms(bus.own_status(party, value == 1))
+        }
+        PollCall::OwnStatus { party, value } => memory::own_status(bus, party, value),
     }
 }
 
@@ -169,5 +181,17 @@ impl Subject for Product {
         let access = |bus: &mut Bus, asked| in_the_models_terms(access(bus, asked));
         let call = |bus: &mut Bus, asked| in_the_models_terms(call(bus, asked));
         try_accesses_by(&self.bus, accesses, calls, access, call)
+    }
+
+    fn poll_call(&mut self, asked: PollCall) -> Answer {
+        poll_call(&mut self.bus, asked)
+    }
+
+    fn lay_aside(&mut self) {
+        self.aside = self.bus.clone();
+    }
+
+    fn is_as_laid_aside(&self) -> bool {
+        self.bus == self.aside
     }
 }

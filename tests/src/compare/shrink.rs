@@ -47,7 +47,7 @@ fn renumbered(piece: &[u8], gone: u8, moved: u8) -> Option<Vec<u8>> {
         Piece::Record([_, _, LINES, ..]) => return Some(piece),
         Piece::Record([_, _, WRITE, ..]) => Some(4),
         Piece::Access(Access::Write { offset, .. }) if offset == DATA_OUT => Some(5),
-        Piece::Record(_) | Piece::Access(_) => None,
+        Piece::Record(_) | Piece::Access(_) | Piece::PollCall(_) => None,
         _ => return Some(piece),
     };
     if piece[3] == gone {

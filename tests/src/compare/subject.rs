@@ -2,7 +2,7 @@
 
 use crate::lists::pieces::{self, Piece};
 use crate::model::script::{self, Call, Record};
-use crate::model::{Access, Answer, Bus, Drivers, Lists, Name, Turns, MOST_PARTIES};
+use crate::model::{Access, Answer, Bus, Drivers, Lists, Name, PollCall, Turns, MOST_PARTIES};
 
 pub trait Subject {
     /// Runs a whole script from the bus of no parties and adds the text of busrun to `out`.
@@ -44,9 +44,41 @@ pub trait Subject {
     /// whether both left the same bus.
     fn try_accesses(&self, accesses: &[Access], calls: &[Call]) -> (Vec<Answer>, bool);
 
+    /// An own status or a parallel poll on the kept bus.
+    fn poll_call(&mut self, call: PollCall) -> Answer;
+
+    /// Keeps a copy of the kept bus besides, in the place of an earlier one.
+    fn lay_aside(&mut self);
+
+    /// Whether the kept bus is the one that was laid aside.
+    fn is_as_laid_aside(&self) -> bool;
+
     /// One record on the kept bus.
     fn record(&mut self, record: Record) -> Answer {
         script::run_record_by(self, record, Self::build, Self::call)
+    }
+}
+
+/// What a piece of a list is answered.
+#[derive(Clone, PartialEq, Debug)]
+pub enum Told {
+    Answer(Answer),
+    Turns(Turns),
+    Drivers(Box<Drivers>),
+    /// It is no call.
+    Nothing,
+}
+
+/// One piece on the kept bus.
+pub fn enter_piece(subject: &mut dyn Subject, piece: &Piece) -> Told {
+    match piece {
+        Piece::Run(turns) => Told::Turns(subject.give_turns(*turns)),
+        Piece::Drivers => Told::Drivers(Box::new(subject.drivers())),
+        Piece::Access(access) => Told::Answer(subject.access(*access)),
+        Piece::PollCall(call) => Told::Answer(subject.poll_call(*call)),
+        Piece::Build(lists, system) => Told::Answer(subject.build_extended(lists, *system)),
+        Piece::Record(record) => Told::Answer(subject.record(*record)),
+        Piece::Address(_) | Piece::Secondary(_) | Piece::Tail => Told::Nothing,
     }
 }
 
@@ -54,14 +86,7 @@ pub trait Subject {
 pub fn enter_list(subject: &mut dyn Subject, list: &[u8]) {
     subject.start();
     for piece in pieces::of_list(list) {
-        match piece {
-            Piece::Run(turns) => _ = subject.give_turns(turns),
-            Piece::Drivers => _ = subject.drivers(),
-            Piece::Access(access) => _ = subject.access(access),
-            Piece::Build(lists, system) => _ = subject.build_extended(&lists, system),
-            Piece::Record(record) => _ = subject.record(record),
-            Piece::Address(_) | Piece::Secondary(_) | Piece::Tail => {}
-        }
+        enter_piece(subject, &piece);
     }
 }
 
@@ -118,6 +143,7 @@ pub fn try_accesses_by<B: Clone + PartialEq>(
 #[derive(Default)]
 pub struct ModelSubject {
     bus: Bus,
+    aside: Bus,
 }
 
 impl Subject for ModelSubject {
@@ -167,5 +193,17 @@ impl Subject for ModelSubject {
 
     fn try_accesses(&self, accesses: &[Access], calls: &[Call]) -> (Vec<Answer>, bool) {
         try_accesses_by(&self.bus, accesses, calls, Bus::access, script::call)
+    }
+
+    fn poll_call(&mut self, call: PollCall) -> Answer {
+        self.bus.poll_call(call)
+    }
+
+    fn lay_aside(&mut self) {
+        self.aside = self.bus;
+    }
+
+    fn is_as_laid_aside(&self) -> bool {
+        self.bus == self.aside
     }
 }

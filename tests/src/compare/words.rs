@@ -3,7 +3,7 @@
 use crate::lists::pieces::Piece;
 use crate::lists::stands_for::{stands_for, StandsFor};
 use crate::model::script::{self, Call};
-use crate::model::{Access, Answer, Drivers, Line, Lists, Refusal};
+use crate::model::{Access, Answer, Drivers, Line, Lists, PollCall, Refusal};
 
 fn switch(value: u8) -> String {
     match value {
@@ -53,6 +53,14 @@ pub fn access(access: Access) -> String {
     format!("{own}: {meaning}")
 }
 
+/// An own status, or a parallel poll.
+pub fn poll_call(call: PollCall) -> String {
+    match call {
+        PollCall::OwnStatus { party, value } => format!("own status party {party} value {value}"),
+        PollCall::Poll { party } => format!("parallel poll by party {party}"),
+    }
+}
+
 fn secondary(secondary: Option<u8>) -> String {
     secondary.map_or("none".to_string(), |own| own.to_string())
 }
@@ -71,6 +79,7 @@ pub fn piece(bytes: &[u8]) -> String {
         Piece::Run(turns) => format!("run of {turns} turns"),
         Piece::Drivers => "drivers".to_string(),
         Piece::Access(own) => access(own),
+        Piece::PollCall(own) => poll_call(own),
         Piece::Address(address) => format!("an address, {address}"),
         Piece::Secondary(own) => format!("a secondary, {}", secondary(own)),
         Piece::Build(_, system) => format!("build from these lists, system party {system}"),

@@ -1,12 +1,13 @@
 //! How often everything came that a comparison has to meet: refusals, events, losses, runs and starts
 //! of the bound here; numberings of the parties in runs, effects of secondaries, lengths of their lists,
-//! numbers of drivers, cases of requests, accesses and feoi's marks in modules.
+//! numbers of drivers, cases of requests, accesses, feoi's marks and parallel polls in modules.
 
 mod access_counts;
 mod driver_counts;
 mod end_mark_cases;
 mod list_lengths;
 mod mark_counts;
+mod poll_cases;
 mod request_cases;
 mod tie_cases;
 
@@ -15,6 +16,7 @@ pub use driver_counts::Driven;
 pub use end_mark_cases::{EndMarkCase, EndMarkCases};
 pub use list_lengths::Lengths;
 pub use mark_counts::Marks;
+pub use poll_cases::{PollCase, PollCases};
 pub use request_cases::{Asked, Case};
 pub use tie_cases::Ties;
 
@@ -40,6 +42,7 @@ pub struct Tally {
     pub asked: Asked,
     pub accesses: Accesses,
     pub end_marks: EndMarkCases,
+    pub polls: PollCases,
 }
 
 /// Fewer starts would say little of the bound, on racks of any sort.
@@ -92,7 +95,8 @@ impl Tally {
         let few = few.chain(self.driven.missing());
         let few = few.chain(self.asked.missing());
         let few = few.chain(self.accesses.missing());
-        never.chain(few).chain(self.end_marks.missing()).collect()
+        let few = few.chain(self.end_marks.missing());
+        never.chain(few).chain(self.polls.missing()).collect()
     }
 
     pub fn print(&self) {
@@ -121,5 +125,6 @@ impl Tally {
         self.asked.print();
         self.accesses.print();
         self.end_marks.print();
+        self.polls.print();
     }
 }

@@ -2,7 +2,7 @@
 
 use super::pieces;
 use crate::model::script::{self, Record, STEP, WRITE};
-use crate::model::{Access, Answer, Bus, Drivers, Event, Lists, Name, MOST_PARTIES};
+use crate::model::{Access, Answer, Bus, Drivers, Event, Lists, Name, PollCall, MOST_PARTIES};
 
 #[derive(Clone, Default)]
 pub struct Composer {
@@ -49,6 +49,19 @@ impl Composer {
 
     pub fn data_out(&mut self, party: u8, value: u8) -> Answer {
         self.access(Access::data_out(party, value))
+    }
+
+    pub fn poll_call(&mut self, call: PollCall) -> Answer {
+        self.records.push(pieces::poll_call(call));
+        self.bus.poll_call(call)
+    }
+
+    pub fn own_status(&mut self, party: u8, value: u8) -> Answer {
+        self.poll_call(PollCall::OwnStatus { party, value })
+    }
+
+    pub fn parallel_poll(&mut self, party: u8) -> Answer {
+        self.poll_call(PollCall::Poll { party })
     }
 
     pub fn step(&mut self, party: u8) -> Answer {

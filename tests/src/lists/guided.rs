@@ -8,14 +8,15 @@ use super::likely_accesses::{self, likely_access};
 use super::likely_arguments::{
     any_party, controller, likely_command, likely_register, likely_turns,
 };
+use super::likely_poll_calls::likely_poll_call;
 use super::pieces::{self, Piece};
 use super::random_numbers::Random;
-use super::scenarios::{scenario, Goal};
+use super::scenarios::{scenario, Goal, Leanings};
 use crate::model::script::{
     self, Record, BUILD, CLEAR, DROP, LAST_OPERATION, LINES, LISTEN, POLL, READ, REQUEST, RESET,
     STANDBY, STEP, TAKE, TALK, WRITE,
 };
-use crate::model::{Acceptor, Bus, Control, Event};
+use crate::model::{Acceptor, Bus, Control, Event, PollCall};
 
 /// How one list behaves, in times per thousand.
 #[derive(Clone, Copy, Default)]
@@ -31,14 +32,13 @@ struct Habits {
     runs: usize,
     /// How often the drivers are asked for.
     drivers: usize,
-    /// How often a scenario is one of requests and polls.
-    polls: usize,
-    /// How often it is one of feoi's marks.
-    end_marks: usize,
+    leanings: Leanings,
     /// How often a call goes through a register.
     registers: usize,
     /// How often there is an access that fits no plan.
     accesses: usize,
+    /// How often there is such an own status or parallel poll.
+    poll_calls: usize,
 }
 
 pub struct Guided {
@@ -86,10 +86,14 @@ impl Guided {
             reads: 500,
             runs: 15,
             drivers: 15,
-            polls: 0,
-            end_marks: 100,
+            leanings: Leanings {
+                polls: 0,
+                end_marks: 100,
+                parallel_polls: 0,
+            },
             registers: 150,
             accesses: 80,
+            poll_calls: 30,
         };
         for _ in 0..more {
             self.next_call();
@@ -117,10 +121,14 @@ impl Guided {
             reads: random.pick(&[50, 300, 900]),
             runs: random.pick(&[0, 0, 5, 20, 100]),
             drivers: random.pick(&[0, 10, 30, 200]),
-            polls: random.pick(&[0, 0, 800]),
-            end_marks: random.pick(&[0, 0, 800]),
+            leanings: Leanings {
+                polls: random.pick(&[0, 0, 800]),
+                end_marks: random.pick(&[0, 0, 800]),
+                parallel_polls: random.pick(&[0, 0, 900]),
+            },
             registers: random.pick(&[0, 0, 300, 950]),
             accesses: random.pick(&[0, 10, 30, 200]),
+            poll_calls: random.pick(&[0, 0, 10, 100]),
         };
     }
 
@@ -142,6 +150,10 @@ impl Guided {
         while self.random.per_mille(60) {
             let access = likely_access(&self.bus, &mut self.random);
             self.call(pieces::access(access));
+        }
+        while self.random.per_mille(60) {
+            let call = likely_poll_call(&self.bus, &mut self.random);
+            self.call(pieces::poll_call(call));
         }
         self.good_build();
     }
@@ -171,6 +183,8 @@ impl Guided {
             pieces::DRIVERS
         } else if self.random.per_mille(self.habits.accesses) {
             pieces::access(likely_access(&self.bus, &mut self.random))
+        } else if self.random.per_mille(self.habits.poll_calls) {
+            pieces::poll_call(likely_poll_call(&self.bus, &mut self.random))
         } else if self.random.per_mille(self.habits.wild) {
             self.wild_record()
         } else if self.random.per_mille(self.habits.disturb) {
@@ -245,8 +259,7 @@ impl Guided {
     fn planned(&mut self) -> Record {
         loop {
             let Some(goal) = self.plan.pop_front() else {
-                let (polls, end_marks) = (self.habits.polls, self.habits.end_marks);
-                let goals = scenario(&self.bus, &mut self.random, polls, end_marks);
+                let goals = scenario(&self.bus, &mut self.random, self.habits.leanings);
                 self.plan.extend(goals);
                 continue;
             };
@@ -268,6 +281,11 @@ impl Guided {
                 Some(script::record(operation, party, value, extra))
             }
             Goal::Access(access) => Some(pieces::access(access)),
+            Goal::PollCall(call) => Some(pieces::poll_call(call)),
+            Goal::ParallelPoll => {
+                let party = active? as u8;
+                Some(pieces::poll_call(PollCall::Poll { party }))
+            }
             Goal::Gain if active.is_some() => None,
             Goal::Gain => Some(self.gain()),
             Goal::Release => active.map(|place| script::record(STANDBY, place as u8, 0, 0)),

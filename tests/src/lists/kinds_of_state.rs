@@ -13,7 +13,8 @@ use crate::model::script::{
     STANDBY, STEP, TAKE, TALK, WRITE,
 };
 use crate::model::{
-    Acceptor, Access, Bus, Control, Kind, Lists, Mark, Name, Service, Source, ATN, DAV,
+    Acceptor, Access, Bus, Control, Kind, Lists, Mark, Name, Party, PollCall, Service, Source, ATN,
+    DAV,
 };
 
 const PARTIES: u8 = 3;
@@ -21,14 +22,14 @@ const FIRST_ADDRESS: u8 = 5;
 const LONGEST_PREFIX: usize = 90;
 const TAIL: usize = 10;
 
-/// UNL, UNT, SPE, SPD, TCT, and the addresses of the rack without secondaries.
+/// UNL, UNT, SPE, SPD, TCT, PPC, and the addresses of the rack without secondaries.
 const COMMANDS: &[u8] = &[
-    0x3F, 0x5F, 0x18, 0x19, 0x09, 0x25, 0x45, 0x26, 0x46, 0x27, 0x47,
+    0x3F, 0x5F, 0x18, 0x19, 0x09, 0x05, 0x25, 0x45, 0x26, 0x46, 0x27, 0x47,
 ];
 
 /// The same for the rack with secondaries.
 const EXTENDED_COMMANDS: &[u8] = &[
-    0x3F, 0x5F, 0x18, 0x19, 0x09, 0x25, 0x45, 0x26, 0x46, 0x61, 0x62,
+    0x3F, 0x5F, 0x18, 0x19, 0x09, 0x05, 0x25, 0x45, 0x26, 0x46, 0x61, 0x62,
 ];
 
 /// Two are numbered against their secondaries.
@@ -53,9 +54,19 @@ struct PartyKind {
     standing: Option<(Kind, bool)>,
 }
 
-/// `lines` says which lines count for telling states apart.
+/// `lines` says which lines count for telling states apart. While configuring, a request for service and
+/// data-in do not.
 fn kind(bus: &Bus, place: usize, lines: u8) -> PartyKind {
-    let party = &bus.parties[place];
+    let mut party = bus.parties[place];
+    if party.mark == Some(Mark::Configuring) {
+        party = Party {
+            data_in: None,
+            service: Service::Nprs,
+            rsv2: false,
+            live: party.saved,
+            ..party
+        };
+    }
     PartyKind {
         flags: [party.talk, party.listen, party.poll_mode],
         mark: party.mark,
@@ -162,8 +173,16 @@ fn some_accesses(party: u8) -> [Access; 4] {
     ]
 }
 
-/// All operations, some runs, the drivers and some accesses, with own, other and no such party, and
-/// values in and out of range.
+fn some_poll_calls(party: u8) -> [PollCall; 3] {
+    [
+        PollCall::Poll { party },
+        PollCall::OwnStatus { party, value: 1 },
+        PollCall::OwnStatus { party, value: 2 },
+    ]
+}
+
+/// All operations, some runs, the drivers, some accesses, own statuses and parallel polls, with own, other
+/// and no such party, and values in and out of range.
 fn all_calls() -> Vec<Record> {
     let mut calls = vec![
         script::record(LINES, 0, 0, 0),
@@ -179,6 +198,7 @@ fn all_calls() -> Vec<Record> {
     calls.push(pieces::DRIVERS);
     for party in [0, 1, 2, PARTIES, 255] {
         calls.extend(some_accesses(party).map(pieces::access));
+        calls.extend(some_poll_calls(party).map(pieces::poll_call));
         for operation in [STEP, READ, TAKE, STANDBY, CLEAR, RESET, DROP] {
             calls.push(script::record(operation, party, 2, 2));
         }

@@ -2,7 +2,8 @@
 //! turns.
 
 use super::command_codes::{
-    DCL, GET, LISTEN_ADDRESS, NEITHER, SDC, SECONDARY, SPD, SPE, TALK_ADDRESS, TCT, UNL, UNT,
+    DCL, GET, LISTEN_ADDRESS, NEITHER, PPC, PPU, SDC, SECONDARY, SPD, SPE, TALK_ADDRESS, TCT, UNL,
+    UNT,
 };
 use super::random_numbers::Random;
 use crate::ledger::bound::TURNS_A_PARTY;
@@ -51,7 +52,7 @@ pub fn likely_command(bus: &Bus, random: &mut Random) -> u8 {
         10 => random.pick(&[SPE, SPD]),
         11 => TCT,
         12 => random.pick(&[SDC, GET, DCL]),
-        13 => random.pick(&[SPE, SPD, TCT, SDC, GET, DCL]),
+        13 => random.pick(&[SPE, SPD, TCT, SDC, GET, DCL, PPC, PPU]),
         14 => random.below(0x20) as u8,
         15 => random.byte(),
         _ => likely_secondary(bus, random),

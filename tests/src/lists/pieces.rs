@@ -1,18 +1,20 @@
 //! The pieces of a list: the records of a script, and among them runs, calls for drivers, accesses to
-//! registers and builds from two lists, which no script can ask for. These come in sixes of bytes too,
-//! each with a mark of its own, so that a list is cut as a script is.
+//! registers, parallel polls, own statuses and builds from two lists, which no script can ask for. These
+//! come in sixes of bytes too, each with a mark of its own, so that a list is cut as a script is.
 
 use std::borrow::Cow;
 use std::mem;
 
 use super::stands_for::{self, StandsFor};
 use crate::model::script::{self, Record, BUILD, LINES, RECORD, STEP};
-use crate::model::{Access, Answer, Bus, Lists, Refusal};
+use crate::model::{Access, Answer, Bus, Lists, PollCall, Refusal};
 
 const RUN_MARK: [u8; 2] = [0x52, 0x54];
 const DRIVERS_MARK: [u8; 2] = [0x44, 0x52];
 const READ_MARK: [u8; 2] = [0x52, 0x44];
 const WRITE_MARK: [u8; 2] = [0x57, 0x52];
+const STATUS_MARK: [u8; 2] = [0x4F, 0x53];
+const POLL_MARK: [u8; 2] = [0x50, 0x50];
 const ADDRESS_MARK: [u8; 2] = [0x41, 0x44];
 const SECONDARY_MARK: [u8; 2] = [0x53, 0x41];
 const BUILD_MARK: [u8; 2] = [0x58, 0x50];
@@ -28,6 +30,8 @@ pub enum Piece {
     Drivers,
     /// A read or a write of a register.
     Access(Access),
+    /// A party's own status, or a parallel poll.
+    PollCall(PollCall),
     /// An entry of the first list of the build that follows.
     Address(u8),
     /// An entry of its second list.
@@ -55,6 +59,10 @@ impl Piece {
                 offset,
                 value,
             }),
+            (STATUS_MARK, [party, value, _]) => {
+                Piece::PollCall(PollCall::OwnStatus { party, value })
+            }
+            (POLL_MARK, [party, ..]) => Piece::PollCall(PollCall::Poll { party }),
             (ADDRESS_MARK, [address, ..]) => Piece::Address(address),
             (SECONDARY_MARK, [0, ..]) => Piece::Secondary(None),
             (SECONDARY_MARK, [_, own, _]) => Piece::Secondary(Some(own)),
@@ -84,6 +92,15 @@ pub const fn access(access: Access) -> Record {
         } => (WRITE_MARK, party, offset, value),
     };
     [mark, second, NO_OPERATION, party, offset, value]
+}
+
+/// An own status, or a parallel poll.
+pub const fn poll_call(call: PollCall) -> Record {
+    let ([mark, second], party, value) = match call {
+        PollCall::OwnStatus { party, value } => (STATUS_MARK, party, value),
+        PollCall::Poll { party } => (POLL_MARK, party, 0),
+    };
+    [mark, second, NO_OPERATION, party, value, 0]
 }
 
 fn address(address: u8) -> Record {
@@ -131,6 +148,7 @@ pub fn enter(bus: &mut Bus, piece: &Piece) -> Answer {
         Piece::Run(turns) => Answer::refused(bus.give_turns(*turns).refusal),
         Piece::Drivers => bus.drivers().answer,
         Piece::Access(access) => bus.access(*access),
+        Piece::PollCall(call) => bus.poll_call(*call),
         Piece::Address(_) | Piece::Secondary(_) => Answer::NOTHING,
         Piece::Build(lists, system) => bus.build_extended(lists, *system),
         Piece::Record(record) => script::run_record(bus, *record),
@@ -148,15 +166,17 @@ pub fn bus_after(list: &[u8]) -> Bus {
 }
 
 /// The script that a list stands for: each run is its steps, and each access the host call that it
-/// stands for; a refused run and an access that stands for none are nothing. Where the drivers are
-/// asked for it has the lines, which leave the same bus.
+/// stands for; a refused run, an access that stands for none, an own status and a parallel poll are
+/// nothing. Where the drivers are asked for it has the lines, which leave the same bus.
 /// None if the list has a build from lists.
 pub fn as_script(list: &[u8]) -> Option<Cow<'_, [u8]>> {
     let mut all_records = true;
     for bytes in list.chunks(RECORD) {
         match Piece::of(bytes) {
             Piece::Address(_) | Piece::Secondary(_) | Piece::Build(..) => return None,
-            Piece::Run(_) | Piece::Drivers | Piece::Access(_) => all_records = false,
+            Piece::Run(_) | Piece::Drivers | Piece::Access(_) | Piece::PollCall(_) => {
+                all_records = false;
+            }
             Piece::Record(_) | Piece::Tail => {}
         }
     }
@@ -179,6 +199,7 @@ fn with_records_alone(list: &[u8]) -> Vec<u8> {
                 script.extend(steps.flat_map(|party| script::record(STEP, party, 0, 0)));
             }
             Piece::Drivers => script.extend(script::record(LINES, 0, 0, 0)),
+            Piece::PollCall(_) => {}
             Piece::Access(access) => {
                 if let StandsFor::Call(_) = stands_for::on_bus(*access, &bus) {
                     script.extend(stands_for::as_record(*access, &bus));

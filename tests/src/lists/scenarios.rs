@@ -1,7 +1,8 @@
 //! What a guided list sets out to do: scenarios of chance, each a short list of goals. Those of feoi's
-//! marks are in a module.
+//! marks and of parallel polls are in modules.
 
 mod end_marks;
+mod parallel_polls;
 
 use super::command_codes::{
     self, DCL, GET, LISTEN_ADDRESS, NEITHER, NO_MEANING, SDC, SECONDARY, SPD, SPE, TALK_ADDRESS,
@@ -12,7 +13,7 @@ use super::likely_arguments::{
 };
 use super::random_numbers::Random;
 use crate::model::script::{CLEAR, DROP, LISTEN, POLL, REQUEST, RESET, STANDBY, TAKE, TALK, WRITE};
-use crate::model::{Access, Bus, RSV};
+use crate::model::{Access, Bus, PollCall, RSV};
 
 #[derive(Clone, Copy, Debug)]
 pub enum Goal {
@@ -20,6 +21,9 @@ pub enum Goal {
     Call(u8, u8, u8, u8),
     /// A read or a write of a register.
     Access(Access),
+    PollCall(PollCall),
+    /// The active party polls.
+    ParallelPoll,
     /// Some party becomes active: out of standby, else by interface clear.
     Gain,
     /// The active party goes to standby.
@@ -60,16 +64,28 @@ const SCENARIOS: [Scenario; 15] = [
     nobody_listens,
 ];
 
-/// Goals for one scenario of chance, never none; `polls` times in a thousand it has requests and polls,
-/// and `marks` times in a thousand of the others it has feoi's marks.
-pub fn scenario(bus: &Bus, random: &mut Random, polls: usize, marks: usize) -> Vec<Goal> {
+/// How often a scenario is of one sort, in times per thousand; each of those that the sorts before it have
+/// left.
+#[derive(Clone, Copy, Default)]
+pub struct Leanings {
+    /// Requests and serial polls.
+    pub polls: usize,
+    /// feoi's marks.
+    pub end_marks: usize,
+    pub parallel_polls: usize,
+}
+
+/// Goals for one scenario of chance, never none.
+pub fn scenario(bus: &Bus, random: &mut Random, leanings: Leanings) -> Vec<Goal> {
     let mut goals = Vec::new();
     let by_two_bytes = bus.has_secondaries() && random.per_mille(300);
     let any = random.pick(&SCENARIOS);
-    let chosen = if random.per_mille(polls) {
+    let chosen = if random.per_mille(leanings.polls) {
         second_requests
-    } else if random.per_mille(marks) {
+    } else if random.per_mille(leanings.end_marks) {
         end_marks::marked_bytes
+    } else if random.per_mille(leanings.parallel_polls) {
+        parallel_polls::parallel_polls
     } else if by_two_bytes {
         secondaries
     } else {

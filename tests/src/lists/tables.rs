@@ -1,11 +1,12 @@
 //! Tables run whole: builds, operations, places, poll registers and damaged scripts here; heard bytes,
-//! second requests, drivers, registers, feoi's marks, runs and starts of the bound in modules of their
-//! own.
+//! second requests, drivers, registers, feoi's marks, parallel polls, runs and starts of the bound in
+//! modules of their own.
 
 pub mod bound_starts;
 pub mod drivers;
 pub mod end_marks;
 pub mod heard_bytes;
+pub mod parallel_polls;
 mod racks;
 pub mod registers;
 pub mod runs;
@@ -140,6 +141,7 @@ fn damaged_scripts(comparison: &mut Comparison, random: &mut Random) -> Done {
 pub fn run(comparison: &mut Comparison, seed: u64) -> Done {
     builds(comparison)?;
     operations_and_places(comparison)?;
+    parallel_polls::run(comparison)?;
     heard_bytes::run(comparison, seed)?;
     poll_registers(comparison)?;
     second_requests::run(comparison)?;

@@ -4,7 +4,8 @@ use super::OrderFault;
 use crate::compare::subject::{like_lines_by, try_accesses_by, try_run_by, Subject};
 use crate::model::script::{self, Call};
 use crate::model::{
-    Access, Answer, Bus, Drivers, Event, Lists, Name, Refusal, Turns, Waiting, MOST_PARTIES,
+    Access, Answer, Bus, Drivers, Event, Lists, Name, PollCall, Refusal, Turns, Waiting,
+    MOST_PARTIES,
 };
 
 /// What a machine keeps from one run to the next.
@@ -164,6 +165,7 @@ impl Fault {
 /// The model, with a fault in place of its run.
 pub struct WrongRun {
     bus: Bus,
+    aside: Bus,
     kept: Kept,
     fault: Fault,
 }
@@ -181,6 +183,7 @@ impl WrongRun {
     fn with(fault: Fault) -> WrongRun {
         WrongRun {
             bus: Bus::new(),
+            aside: Bus::new(),
             kept: Kept::default(),
             fault,
         }
@@ -193,7 +196,11 @@ impl Subject for WrongRun {
     }
 
     fn start(&mut self) {
-        *self = WrongRun::with(self.fault);
+        let aside = self.aside;
+        *self = WrongRun {
+            aside,
+            ..WrongRun::with(self.fault)
+        };
     }
 
     fn build(&mut self, addresses: &[u8], system: u8) -> Answer {
@@ -235,5 +242,17 @@ impl Subject for WrongRun {
 
     fn try_accesses(&self, accesses: &[Access], calls: &[Call]) -> (Vec<Answer>, bool) {
         try_accesses_by(&self.bus, accesses, calls, Bus::access, script::call)
+    }
+
+    fn poll_call(&mut self, call: PollCall) -> Answer {
+        self.bus.poll_call(call)
+    }
+
+    fn lay_aside(&mut self) {
+        self.aside = self.bus;
+    }
+
+    fn is_as_laid_aside(&self) -> bool {
+        self.bus == self.aside
     }
 }

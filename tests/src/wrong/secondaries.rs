@@ -33,18 +33,18 @@ pub const SECONDARY_FAULTS: &[(&str, Fault)] = &[
 ];
 
 /// The code that the caller heard by this step, be it its own command.
-fn code_heard(before: &Bus, answer: &Answer) -> Option<u8> {
+pub(super) fn code_heard(before: &Bus, answer: &Answer) -> Option<u8> {
     let taken = matches!(answer.event, Event::Heard | Event::Clear | Event::Trigger);
     let own = answer.event.is_end() && before.atn();
     (taken || own).then_some(answer.byte & 0x7F)
 }
 
-fn heard_in(before: &Bus, answer: &Answer, codes: std::ops::RangeInclusive<u8>) -> bool {
+pub(super) fn heard_in(before: &Bus, answer: &Answer, codes: std::ops::RangeInclusive<u8>) -> bool {
     code_heard(before, answer).is_some_and(|code| codes.contains(&code))
 }
 
 /// The caller's mark as it was.
-fn mark_back(bus: &mut Bus, before: &Bus, call: Record) {
+pub(super) fn mark_back(bus: &mut Bus, before: &Bus, call: Record) {
     actor(bus, call).mark = was(before, call).mark;
 }
 

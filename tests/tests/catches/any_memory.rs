@@ -3,11 +3,12 @@
 use meskvorn_tests::compare::any_memory::{self, InMemory};
 use meskvorn_tests::compare::memory::Rows;
 use meskvorn_tests::model::script::Call;
-use meskvorn_tests::model::{Access, Refusal};
+use meskvorn_tests::model::{Access, PollCall, Refusal};
 
 const CALL: u8 = 1;
 const RUN: u8 = 2;
 const ACCESS: u8 = 3;
+const POLL_CALL: u8 = 4;
 
 /// Has as many parties as the last row's first byte says, and refuses calls of others. A wrong one
 /// clears the last byte where it refuses one sort of call.
@@ -43,6 +44,10 @@ impl<const WRONG: u8> InMemory for Counted<WRONG> {
     fn access(&mut self, access: Access) -> Refusal {
         self.refused_if(access.party() >= self.0[15][0], ACCESS)
     }
+
+    fn poll_call(&mut self, call: PollCall) -> Refusal {
+        self.refused_if(call.party() >= self.0[15][0], POLL_CALL)
+    }
 }
 
 const SAMPLES: [Rows; 1] = [[[1; 24]; 16]];
@@ -70,10 +75,19 @@ fn refused_accesses_that_change_the_memory_are_found() {
 }
 
 #[test]
+fn refused_statuses_and_polls_that_change_the_memory_are_found() {
+    let found = any_memory::run::<Counted<POLL_CALL>>(&SAMPLES, 1);
+    let story = found.expect_err("a refused call changed the memory");
+    assert!(story.starts_with("own status party") || story.starts_with("parallel poll by"));
+}
+
+#[test]
 fn what_never_came_is_told() {
     let met = any_memory::run::<Counted<0>>(&SAMPLES, 1).expect("no difference");
     let missing = met.missing();
-    assert_eq!(missing.len(), 14);
+    assert_eq!(missing.len(), 17);
+    assert!(missing.contains(&"parallel polls STANDING on any memory".to_string()));
+    assert!(missing.contains(&"own statuses BADVALUE on any memory".to_string()));
     assert!(missing.contains(&"calls TALKER on any memory".to_string()));
     assert!(missing.contains(&"accesses NOREG on any memory".to_string()));
     assert!(!missing.iter().any(|word| word.starts_with("runs")));

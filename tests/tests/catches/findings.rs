@@ -2,8 +2,8 @@
 
 use meskvorn_tests::compare::subject::Subject;
 use meskvorn_tests::compare::{Comparison, Finding};
-use meskvorn_tests::ledger::tally::{Asked, EndMarkCases};
-use meskvorn_tests::ledger::{EndMarks, Ledger, Requests};
+use meskvorn_tests::ledger::tally::{Asked, EndMarkCases, PollCases};
+use meskvorn_tests::ledger::{EndMarks, Ledger, ParallelPolls, Requests};
 use meskvorn_tests::lists::guided::Guided;
 use meskvorn_tests::lists::pieces::{self, Piece};
 use meskvorn_tests::lists::{stands_for, tables};
@@ -28,8 +28,8 @@ pub fn ledger_says(fault: &str, list: &[u8]) -> Option<&'static str> {
     ledger_of(&mut Wrong::named(fault), list)
 }
 
-/// A call, a build or an access by a wrong machine, with the answer; None for any other piece. An
-/// access is the host call that it stands for.
+/// A call, a build, an access, an own status or a poll by a wrong machine, with the answer; None for any
+/// other piece. An access is the host call that it stands for.
 fn call_of(machine: &mut Wrong, piece: &Piece) -> Option<(Record, Answer)> {
     match piece {
         Piece::Record(record) => Some((*record, machine.record(*record))),
@@ -41,6 +41,7 @@ fn call_of(machine: &mut Wrong, piece: &Piece) -> Option<(Record, Answer)> {
             let record = stands_for::as_record(*access, &machine.bus);
             Some((record, machine.access(*access)))
         }
+        Piece::PollCall(call) => Some((pieces::poll_call(*call), machine.poll_call(*call))),
         _ => None,
     }
 }
@@ -73,16 +74,34 @@ pub fn condition_of(machine: &mut Wrong, list: &[u8]) -> Option<&'static str> {
     })
 }
 
+/// The record that books read which tell accesses from host calls.
+fn as_piece(piece: &Piece, record: Record) -> Record {
+    match piece {
+        Piece::Access(access) => pieces::access(*access),
+        _ => record,
+    }
+}
+
 /// The same by the books of feoi's marks alone.
 pub fn end_marks_of(machine: &mut Wrong, list: &[u8]) -> Option<&'static str> {
     let (mut marks, mut cases) = (EndMarks::new(), EndMarkCases::default());
     machine.start();
     pieces::of_list(list).find_map(|piece| {
         let (record, answer) = call_of(machine, &piece)?;
-        let entered = match piece {
-            Piece::Access(access) => pieces::access(access),
-            _ => record,
-        };
+        let entered = as_piece(&piece, record);
         marks.enter(entered, &answer, &mut cases).err()
+    })
+}
+
+/// The same by the books of parallel polls alone.
+pub fn polls_of(machine: &mut Wrong, list: &[u8]) -> Option<&'static str> {
+    let (mut polls, mut cases) = (ParallelPolls::new(), PollCases::default());
+    machine.start();
+    pieces::of_list(list).find_map(|piece| {
+        let before = machine.bus;
+        let (record, answer) = call_of(machine, &piece)?;
+        let entered = as_piece(&piece, record);
+        let entered = polls.enter(&before, entered, &answer, &machine.bus, &mut cases);
+        entered.err()
     })
 }

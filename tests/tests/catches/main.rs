@@ -6,6 +6,8 @@ mod drivers;
 mod end_marks;
 mod findings;
 mod machine;
+mod parallel_polls;
+mod polls_in_memory;
 mod registers;
 mod runs;
 mod second_requests;

@@ -5,7 +5,7 @@ use meskvorn_tests::compare::subject::{ModelSubject, Subject};
 use meskvorn_tests::compare::{builds, Comparison, Difference};
 use meskvorn_tests::lists::hex::records;
 use meskvorn_tests::model::script::{Call, LINES, RECORD};
-use meskvorn_tests::model::{Access, Answer, Drivers, Lists, Name, Turns};
+use meskvorn_tests::model::{Access, Answer, Drivers, Lists, Name, PollCall, Turns};
 
 /// Agrees record by record and differs in the text alone.
 struct WrongText(ModelSubject);
@@ -47,6 +47,15 @@ impl Subject for WrongText {
     }
     fn try_accesses(&self, accesses: &[Access], calls: &[Call]) -> (Vec<Answer>, bool) {
         self.0.try_accesses(accesses, calls)
+    }
+    fn poll_call(&mut self, call: PollCall) -> Answer {
+        self.0.poll_call(call)
+    }
+    fn lay_aside(&mut self) {
+        self.0.lay_aside();
+    }
+    fn is_as_laid_aside(&self) -> bool {
+        self.0.is_as_laid_aside()
     }
 }
 
@@ -108,6 +117,15 @@ impl Subject for WrongByNumber {
     }
     fn try_accesses(&self, accesses: &[Access], calls: &[Call]) -> (Vec<Answer>, bool) {
         self.model.try_accesses(accesses, calls)
+    }
+    fn poll_call(&mut self, call: PollCall) -> Answer {
+        self.model.poll_call(call)
+    }
+    fn lay_aside(&mut self) {
+        self.model.lay_aside();
+    }
+    fn is_as_laid_aside(&self) -> bool {
+        self.model.is_as_laid_aside()
     }
 }
 

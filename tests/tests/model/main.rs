@@ -5,6 +5,7 @@ mod drivers;
 mod end_marks;
 mod examples;
 mod machine;
+mod parallel_poll;
 mod refusals;
 mod registers;
 mod script_lines;

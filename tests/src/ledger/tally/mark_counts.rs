@@ -53,7 +53,7 @@ impl Marks {
         let actor = usize::from(call[3]);
         for place in 0..before.count {
             let (was, is) = (&before.parties[place], &after.parties[place]);
-            if was.mark.is_some() && is.mark.is_none() {
+            if was.primary_mark().is_some() && is.primary_mark().is_none() {
                 self.count(lost_by(call, answer, place == actor), true);
             }
         }
@@ -72,7 +72,7 @@ impl Marks {
             self.count(Count::TalkOff, to_talk && was.talk && !is.talk);
         }
         let extended = is.name.secondary.is_some();
-        let marked = was.mark.is_none() && is.mark.is_some();
+        let marked = was.primary_mark().is_none() && is.primary_mark().is_some();
         self.count(Count::OwnMark, marked && was.is_active());
         self.count(Count::Data, extended && answer.event == Event::Data);
         self.count(Count::Status, extended && answer.event == Event::Stat);
