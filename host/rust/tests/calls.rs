@@ -1,24 +1,11 @@
 //! Calls one by one; what is expected is worked out from document 01.
 
+mod expected;
+
+use expected::{accepted, refused, NONE};
 use meskvorn::{Answer, Bus, Event, Refusal};
 
-const NONE: Answer = accepted(Event::None, 0, false);
 const MOVED: Answer = accepted(Event::Moved, 0, false);
-
-const fn accepted(event: Event, byte: u8, end: bool) -> Answer {
-    Answer {
-        refusal: Refusal::Accepted,
-        event,
-        byte,
-        end,
-        dropped: 0,
-        broken: 0,
-    }
-}
-
-fn refused(refusal: Refusal) -> Answer {
-    Answer { refusal, ..NONE }
-}
 
 /// Parties at addresses 5, 6, ..; party 0 is the system party.
 fn built(parties: u8) -> Bus {

@@ -1,5 +1,8 @@
 //! The parallel poll; what is expected is worked out from document 01 and from document 02's Q-8.
 
+mod expected;
+
+use expected::{accepted, refused, NONE};
 use meskvorn::parallel_poll::{PPC, PPD, PPE, PPU, SENSE};
 use meskvorn::{Answer, Bus, Event, Name, Refusal};
 
@@ -13,23 +16,6 @@ const RACK: [Name; PARTIES as usize] = [
     Name::extended(4, 5),
     Name::extended(4, 26),
 ];
-
-const NONE: Answer = accepted(Event::None, 0);
-
-const fn accepted(event: Event, byte: u8) -> Answer {
-    Answer {
-        refusal: Refusal::Accepted,
-        event,
-        byte,
-        end: false,
-        dropped: 0,
-        broken: 0,
-    }
-}
-
-fn refused(refusal: Refusal) -> Answer {
-    Answer { refusal, ..NONE }
-}
 
 /// Party 0 is the system party, and active.
 fn under_control() -> Bus {
@@ -59,7 +45,10 @@ fn send(bus: &mut Bus, commands: &[u8]) {
 #[track_caller]
 fn poll_by(bus: &mut Bus, party: u8, byte: u8) {
     let before = bus.clone();
-    assert_eq!(bus.parallel_poll(party), accepted(Event::Lines, byte));
+    assert_eq!(
+        bus.parallel_poll(party),
+        accepted(Event::Lines, byte, false)
+    );
     assert_eq!(*bus, before);
 }
 

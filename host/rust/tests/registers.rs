@@ -1,25 +1,11 @@
 //! The chip's registers; what is expected is worked out from documents 01 and 02, and from document
 //! 001's tables 2-1 to 2-3.
 
+mod expected;
+
+use expected::{accepted, refused, NONE};
 use meskvorn::registers::{auxiliary, read, write};
 use meskvorn::{Answer, Bus, Event, Operation, Refusal};
-
-const NONE: Answer = accepted(Event::None, 0, false);
-
-const fn accepted(event: Event, byte: u8, end: bool) -> Answer {
-    Answer {
-        refusal: Refusal::Accepted,
-        event,
-        byte,
-        end,
-        dropped: 0,
-        broken: 0,
-    }
-}
-
-fn refused(refusal: Refusal) -> Answer {
-    Answer { refusal, ..NONE }
-}
 
 /// Party 0 talks, party 1 listens and has taken 41 with END, party 2 is idle and holds a byte.
 fn busy() -> Bus {

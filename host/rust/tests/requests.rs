@@ -1,25 +1,12 @@
 //! The second request bit; what is expected is worked out from document 01 and from document 02's Q-5.
 
+mod expected;
+
+use expected::{accepted, refused, NONE};
 use meskvorn::{run, Answer, Bus, Event, Line, Operation, Refusal};
 
-const NONE: Answer = accepted(Event::None, 0);
-const MOVED: Answer = accepted(Event::Moved, 0);
+const MOVED: Answer = accepted(Event::Moved, 0, false);
 const SRQ: u8 = 4;
-
-const fn accepted(event: Event, byte: u8) -> Answer {
-    Answer {
-        refusal: Refusal::Accepted,
-        event,
-        byte,
-        end: false,
-        dropped: 0,
-        broken: 0,
-    }
-}
-
-fn refused(refusal: Refusal) -> Answer {
-    Answer { refusal, ..NONE }
-}
 
 /// The active party 0 sends one command to its end.
 fn command(bus: &mut Bus, byte: u8) {
@@ -63,11 +50,11 @@ fn asking() -> Bus {
 fn status(bus: &mut Bus, byte: u8) {
     assert_eq!(bus.step(1), MOVED);
     assert_eq!(bus.step(0), MOVED);
-    assert_eq!(bus.step(1), accepted(Event::Stat, byte));
-    assert_eq!(bus.step(0), accepted(Event::Took, byte));
+    assert_eq!(bus.step(1), accepted(Event::Stat, byte, false));
+    assert_eq!(bus.step(0), accepted(Event::Took, byte, false));
     assert_eq!(bus.step(0), MOVED);
-    assert_eq!(bus.step(1), accepted(Event::Ended, byte));
-    assert_eq!(bus.read(0), accepted(Event::Read, byte));
+    assert_eq!(bus.step(1), accepted(Event::Ended, byte, false));
+    assert_eq!(bus.read(0), accepted(Event::Read, byte, false));
     assert_eq!(bus.step(0), MOVED);
 }
 
@@ -108,7 +95,7 @@ fn the_put_clears_it_though_the_byte_is_broken_off() {
     assert_eq!(bus.go_to_standby(0), NONE);
     assert_eq!(bus.step(1), MOVED);
     assert_eq!(bus.step(0), MOVED);
-    assert_eq!(bus.step(1), accepted(Event::Stat, 0x41));
+    assert_eq!(bus.step(1), accepted(Event::Stat, 0x41, false));
     assert_eq!(bus.take_control(0), Answer { broken: 1, ..NONE });
     assert_eq!(bus.go_to_standby(0), NONE);
     status(&mut bus, 0x01);
@@ -186,7 +173,7 @@ fn polls_by_runs() {
     for wanted in [0x41, 0x01, 0x01] {
         assert_eq!(bus.go_to_standby(0), NONE);
         bus.give_turns(8);
-        assert_eq!(bus.read(0), accepted(Event::Read, wanted));
+        assert_eq!(bus.read(0), accepted(Event::Read, wanted, false));
         assert_eq!(bus.take_control(0), NONE);
     }
 }
