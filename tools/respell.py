@@ -88,7 +88,7 @@ def comment_turned(text, ren):
     """Prose: names in camel case anywhere, others between backticks alone."""
     camel = {o: n for o, n in ren.items() if re.search(r"[A-Z]", o)}
     text = WORD.sub(lambda m: camel.get(m.group(0), m.group(0)), text)
-    return re.sub(r"`([^`]+)`", lambda m: "`" + turned(m.group(1), ren, ()) + "`", text)
+    return re.sub(r"(?<!`)`([^`\n]+)`(?!`)", lambda m: "`" + turned(m.group(1), ren, ()) + "`", text)
 
 
 def logic(text, ren, own):
@@ -144,7 +144,9 @@ def main():
     for folder, _, fs in sorted(os.walk("tests/machines")):
         plain += [os.path.join(folder, f) for f in sorted(fs) if f.endswith((".patch", ".proof"))]
     for p in plain:
-        write(p, WORD.sub(lambda m: older(m.group(0)) or m.group(0), read(p)))
+        text = read(p)
+        words = {w: older(w) for w in WORD.findall(text) if older(w)}
+        write(p, "\n".join(comment_turned(l, words) if l.startswith("#") else turned(l, words, ()) for l in text.split("\n")))
     prose = ["README.md", "tests/README.md", "tests/machines/README.md"]
     for folder, _, fs in sorted(os.walk("docs")):
         prose += [os.path.join(folder, f) for f in sorted(fs) if f.endswith(".md")]
