@@ -1,4 +1,6 @@
 // What an accepted call does to its party.
+#![tactic(auto)]
+
 ghost use Rattle.std.specs.Prelude.{◌≡◌};
 ghost use Rattle.accepted.specs.Accepted.{step, acted, effect_of};
 

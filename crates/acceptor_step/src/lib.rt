@@ -1,4 +1,6 @@
 // The acceptor step.
+#![tactic(auto)]
+
 ghost use Rattle.std.specs.Prelude.{◌≡◌};
 ghost use Rattle.acceptor_step.specs.AcceptorStep.{fills, hears, takes, readies, acceptor_step};
 

@@ -1,4 +1,6 @@
 // The addresses of a build: the names that they give, and whether these make a bus.
+#![tactic(auto)]
+
 ghost use Rattle.std.specs.Prelude.{◌≡◌, get_or, drop};
 ghost use Rattle.names.specs.Names.{plain};
 ghost use Rattle.message.specs.Meaning.{address};

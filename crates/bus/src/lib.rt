@@ -1,4 +1,6 @@
 // The bus: its parties, the standing byte, the calls on it and their answers.
+#![tactic(auto)]
+
 use effect::{Refusal, Standing};
 use event::Event;
 use parties::{Counts, Masks};
@@ -9,7 +11,7 @@ pub mod calls;
 pub mod endings;
 
 // The bus record. Places from count on have no party and hold the idle one.
-#[derive(Drop)]
+#[derive(Clone, Copy)]
 pub struct Bus {
     pub parties: [Party; 15],
     pub count: u8,
@@ -19,7 +21,7 @@ pub struct Bus {
 }
 
 // What a call answers, and the bus after it.
-#[derive(Drop)]
+#[derive(Clone, Copy)]
 pub struct Answer {
     pub refusal: Refusal,
     pub event: Event,
@@ -32,7 +34,7 @@ pub struct Answer {
 
 // What the call that asks who drives the lines answers: who, and how many, of the bus as it was found; and what every
 // call answers.
-#[derive(Drop)]
+#[derive(Clone, Copy)]
 pub struct Drivers {
     pub masks: Masks,
     pub counts: Counts,

@@ -1,4 +1,6 @@
 // Reads a bus script from standard input and writes a line for each record.
+#![tactic(auto)]
+
 ghost use Rattle.std.specs.Prelude.{◌≡◌, List, ℕ, ◌<◌, length, take};
 ghost use Rattle.io.specs.Counts.{IsPrefixLen};
 ghost use Rattle.run.specs.Run.{Printed};

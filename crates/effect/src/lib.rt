@@ -1,4 +1,6 @@
 // A call, its refusal, what stands on the bus, and what a call does to its own party and to that.
+#![tactic(auto)]
+
 use event::Event;
 use offer::Kind;
 use parties::{Found, Lines};
@@ -9,7 +11,7 @@ pub mod effects;
 pub mod stands;
 
 // Document 01's standing byte: its sender, kind, value and END. It stands exactly while its sender is in STRS.
-#[derive(Drop)]
+#[derive(Clone, Copy)]
 pub enum Standing {
     Nothing,
     Byte {
@@ -21,7 +23,7 @@ pub enum Standing {
 }
 
 // Why a call was refused; specs/Calls.antt gives document 01's number for each.
-#[derive(Drop)]
+#[derive(Clone, Copy)]
 pub enum Refusal {
     Accepted,
     NoParty,
@@ -38,7 +40,7 @@ pub enum Refusal {
 }
 
 // What a host may ask of a party, with its arguments as they come: a byte, a switch or an END.
-#[derive(Drop)]
+#[derive(Clone, Copy)]
 pub enum Act {
     Step,
     Write(u8, u8),
@@ -65,7 +67,7 @@ pub enum Act {
 }
 
 // The operations other than build: those of a party, and those of the whole bus.
-#[derive(Drop)]
+#[derive(Clone, Copy)]
 pub enum Call {
     Of(Place, Act),
     Lines,
@@ -73,7 +75,7 @@ pub enum Call {
 }
 
 // What a call sees of the bus as it comes.
-#[derive(Drop)]
+#[derive(Clone, Copy)]
 pub struct View {
     pub place: Place,
     // Has the place a party, and is that the system party?
@@ -87,7 +89,7 @@ pub struct View {
 }
 
 // What an answer says beside its refusal, its broken count and the bus.
-#[derive(Drop)]
+#[derive(Clone, Copy)]
 pub struct Said {
     pub event: Event,
     pub byte: u8,
@@ -97,7 +99,7 @@ pub struct Said {
 
 // What follows on a call's own changes: settling alone; control that goes on to a party; attention; an interface clear;
 // a parallel poll, whose lines are told of all parties.
-#[derive(Drop)]
+#[derive(Clone, Copy)]
 pub enum After {
     Settle,
     Pass(Place),
@@ -107,7 +109,7 @@ pub enum After {
 }
 
 // What a host call does: what it says, what follows, and its party. None of them changes what stands.
-#[derive(Drop)]
+#[derive(Clone, Copy)]
 pub struct Outcome {
     pub said: Said,
     pub after: After,
@@ -115,7 +117,7 @@ pub struct Outcome {
 }
 
 // What any call does to its own party and to what stands, and what is to follow.
-#[derive(Drop)]
+#[derive(Clone, Copy)]
 pub struct Effect {
     pub said: Said,
     pub after: After,

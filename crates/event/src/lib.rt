@@ -1,9 +1,11 @@
 // What an answer says has happened, with document 01's word and number for it.
+#![tactic(auto)]
+
 ghost use Rattle.std.specs.Prelude.{◌≡◌, ◌≤◌, length, take};
 ghost use Rattle.event.specs.Words.{event_number, has_byte, word_text};
 ghost use Rattle.event.specs.declared.Word.{Word};
 
-#[derive(Drop)]
+#[derive(Clone, Copy)]
 pub enum Event {
     None,
     Moved,
@@ -22,7 +24,7 @@ pub enum Event {
 }
 
 // The first len bytes are an event's word and a space. Words of one length let a single loop copy them all.
-#[derive(Drop)]
+#[derive(Clone, Copy)]
 pub struct Word {
     pub text: [u8; 8],
     pub len: usize,

@@ -1,5 +1,7 @@
 // Document 01's example script through the calls: a talker sends one byte to a listener. A line is printed for each
 // answer.
+#![tactic(auto)]
+
 use bus::{Answer, Bus};
 use libc::STDOUT_FILENO;
 use party::Place;

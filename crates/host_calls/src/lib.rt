@@ -1,4 +1,6 @@
 // What the host's calls do to their own party, once they are accepted.
+#![tactic(auto)]
+
 ghost use Rattle.std.specs.Prelude.{◌≡◌};
 ghost use Rattle.host_calls.specs.HostCalls.{write, read, requested, poll_register, second_request, listen_acceptor};
 ghost use Rattle.host_calls.specs.HostCalls.{listen_only, talk_only, controlled, drop_held, reset_acceptor, reset};

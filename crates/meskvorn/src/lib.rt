@@ -1,4 +1,6 @@
 // What a C or Rust program links: the functions under these names.
+#![tactic(auto)]
+
 ghost use Rattle.std.specs.Prelude.{◌≡◌};
 ghost use Rattle.meskvorn.specs.Host.{count_of, RanTo};
 

@@ -1,19 +1,21 @@
 // Command bytes and what they mean: document 01's table of 256 meanings.
+#![tactic(auto)]
+
 ghost use Rattle.std.specs.Prelude.{◌≡◌};
 ghost use Rattle.message.specs.Meaning.{code_of, decode, meaning_of};
 
 pub mod table;
 
 // A primary address. Document 01: "a party's place and its address are separate kinds of number".
-#[derive(Drop)]
+#[derive(Clone, Copy)]
 pub struct Address(pub u8);
 
 // A secondary address, which says which of the parties at one primary is meant.
-#[derive(Drop)]
+#[derive(Clone, Copy)]
 pub struct SecondaryAddress(pub u8);
 
 // What a command byte means to who hears it.
-#[derive(Drop)]
+#[derive(Clone, Copy)]
 pub enum Meaning {
     // A primary command without a meaning of its own.
     Other,
@@ -44,6 +46,7 @@ pub fn code_of(byte: u8) -> u8
 }
 
 // What a byte with this code means, if its low five bits are the number of an address.
+#[tactic(auto, unfolding(crate::specs::Meaning::decode))]
 fn decode(code: u8, number: u8) -> Meaning
     ensures { result ≡ decode code number }
 {

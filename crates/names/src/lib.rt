@@ -1,18 +1,20 @@
 // Names: what a build fixes of a party, which of them make a bus, and which two may not be on one.
+#![tactic(auto)]
+
 ghost use Rattle.std.specs.Prelude.{◌≡◌};
 ghost use Rattle.names.specs.Names.{secondary_is_over30, is_over30, meets, clashes, is_given};
 
 use message::{Address, SecondaryAddress};
 
 // A secondary address, or none.
-#[derive(Drop)]
+#[derive(Clone, Copy)]
 pub enum Secondary {
     Absent,
     Given(SecondaryAddress),
 }
 
 // What a build fixes of a party. One with a secondary is the standard's extended talker and listener.
-#[derive(Drop)]
+#[derive(Clone, Copy)]
 pub struct Name {
     pub address: Address,
     pub secondary: Secondary,

@@ -1,18 +1,20 @@
 // A byte on offer: its register, its kind, and what putting it leaves.
+#![tactic(auto)]
+
 ghost use Rattle.std.specs.Prelude.{◌≡◌};
 ghost use Rattle.offer.specs.Offer.{is_full, kind_of, end_of, put_event, spent};
 
 use event::Event;
 
 // A byte with its END, or none: the held byte and the data-in byte.
-#[derive(Drop)]
+#[derive(Clone, Copy)]
 pub enum Slot {
     Empty,
     Full(u8, bool),
 }
 
 // The kind of a byte that is put up.
-#[derive(Drop)]
+#[derive(Clone, Copy)]
 pub enum Kind {
     Command,
     Data,

@@ -1,4 +1,6 @@
 // What a record or a host asks for by numbers, and its answer.
+#![tactic(auto)]
+
 ghost use Rattle.std.specs.Prelude.{◌≡◌, ◌≤◌};
 ghost use Rattle.orders.specs.Orders.{count_up, build_from, order_of, obey};
 
@@ -7,7 +9,7 @@ use effect::{Act, Call, Refusal};
 use party::Place;
 
 // What a record asks for.
-#[derive(Drop)]
+#[derive(Clone, Copy)]
 pub enum Order {
     // The system party, the number of parties and the first address.
     Build(Place, u8, u8),

@@ -1,4 +1,6 @@
 // The parties of a bus together: the lines that they drive.
+#![tactic(auto)]
+
 ghost use Rattle.std.specs.Prelude.{◌≡◌, ◌≤◌};
 ghost use Rattle.parties.specs.Lines.{weight, lines_byte};
 
@@ -9,7 +11,7 @@ pub mod polling;
 pub mod sweeping;
 
 // The six lines of the bus, true where driven.
-#[derive(Drop)]
+#[derive(Clone, Copy)]
 pub struct Lines {
     pub atn: bool,
     pub dav: bool,
@@ -20,7 +22,7 @@ pub struct Lines {
 }
 
 // The parties that drive each line, as sixteen bits, one a party, party 0 lowest.
-#[derive(Drop)]
+#[derive(Clone, Copy)]
 pub struct Masks {
     pub atn: u16,
     pub dav: u16,
@@ -31,7 +33,7 @@ pub struct Masks {
 }
 
 // How many parties drive each line.
-#[derive(Drop)]
+#[derive(Clone, Copy)]
 pub struct Counts {
     pub atn: u32,
     pub dav: u32,
@@ -42,7 +44,7 @@ pub struct Counts {
 }
 
 // What one pass over the parties finds: who drives each line that a party's state decides, and who talks, as masks.
-#[derive(Drop)]
+#[derive(Clone, Copy)]
 pub struct Sweep {
     pub atn: u16,
     pub dav: u16,
@@ -53,21 +55,21 @@ pub struct Sweep {
 }
 
 // The place of a party that was looked for.
-#[derive(Drop)]
+#[derive(Clone, Copy)]
 pub enum Found {
     Nowhere,
     At(Place),
 }
 
 // What a call is told of the parties: the lines, and the first party other than its own that talks.
-#[derive(Drop)]
+#[derive(Clone, Copy)]
 pub struct Scan {
     pub lines: Lines,
     pub talker: Found,
 }
 
 // What some calls do to every party: attention and then settling, or the first part of an interface clear.
-#[derive(Drop)]
+#[derive(Clone, Copy)]
 pub enum Change {
     Attend(bool),
     Clear,

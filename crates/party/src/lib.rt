@@ -1,4 +1,6 @@
 // A party of the bus: its states, and what one party drives, hears, offers and settles to.
+#![tactic(auto)]
+
 ghost use Rattle.std.specs.Prelude.{◌≡◌};
 ghost use Rattle.party.specs.Parts.{built_party, with_feoi, with_ist};
 ghost use Rattle.role.specs.Roles.{unaddressed};
@@ -16,10 +18,10 @@ pub mod sending;
 pub mod settling;
 
 // A party's place on the bus, from 0. Document 01: "a party's place and its address are separate kinds of number".
-#[derive(Drop)]
+#[derive(Clone, Copy)]
 pub struct Place(pub u8);
 
-#[derive(Drop)]
+#[derive(Clone, Copy)]
 pub enum Control {
     Idle,
     Standby,
@@ -27,7 +29,7 @@ pub enum Control {
 }
 
 // The source handshake.
-#[derive(Drop)]
+#[derive(Clone, Copy)]
 pub enum Source {
     Sids,
     Sgns,
@@ -36,7 +38,7 @@ pub enum Source {
 }
 
 // The acceptor handshake.
-#[derive(Drop)]
+#[derive(Clone, Copy)]
 pub enum Acceptor {
     Aids,
     Anrs,
@@ -46,7 +48,7 @@ pub enum Acceptor {
 }
 
 // What the host sets aside in its party for later. No command and no step touches it.
-#[derive(Drop)]
+#[derive(Clone, Copy)]
 pub struct Latches {
     // The chip's feoi: the next byte that is written through its data out register has END.
     pub feoi: bool,
@@ -79,7 +81,7 @@ impl Latches {
     }
 }
 
-#[derive(Drop)]
+#[derive(Clone, Copy)]
 pub struct Party {
     pub role: Role,
     pub control: Control,

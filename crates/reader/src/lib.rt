@@ -1,6 +1,8 @@
 // The bus script: a reader that keeps the script and its place in it hands out records. A struct with a lent slice
 // inside is not covered by the proofs that come by themselves, so what is written over it is thin and proved by hand:
 // start, take and take_at. The work is in record_at and after_at.
+#![tactic(auto)]
+
 ghost use Rattle.std.specs.Prelude.{◌≡◌, length};
 ghost use Rattle.reader.specs.Record.{record_at, after_at, take_at};
 
@@ -11,7 +13,7 @@ pub struct Reader<'a> {
 }
 
 // What stands at a place of the script.
-#[derive(Drop)]
+#[derive(Clone, Copy)]
 pub enum Next {
     Record {
         op: u8,
@@ -25,13 +27,14 @@ pub enum Next {
 }
 
 // What a reader hands out, and its place after that.
-#[derive(Drop)]
+#[derive(Clone, Copy)]
 pub struct Taken {
     pub next: Next,
     pub at: usize,
 }
 
 // The work: the record at a place.
+#[tactic(auto, unfolding(crate::specs::Record::record_at))]
 fn record_at(script: &[u8], at: usize) -> Next
     ensures { result ≡ record_at script.now at }
 {
@@ -57,6 +60,7 @@ fn record_at(script: &[u8], at: usize) -> Next
 }
 
 // The work: the place after what stands at a place. A record is 6 bytes; what is bad ends the script.
+#[tactic(auto, unfolding(crate::specs::Record::after_at, crate::specs::Record::record_at))]
 fn after_at(script: &[u8], at: usize) -> usize
     ensures { result ≡ after_at script.now at }
 {

@@ -1,4 +1,6 @@
 // Which refusal a call meets.
+#![tactic(auto)]
+
 ghost use Rattle.std.specs.Prelude.{◌≡◌, cond};
 ghost use Rattle.refusals.specs.Refusals.{is_inside, in_standby, listen_refusal, talk_refusal, active_refusal, own};
 ghost use Rattle.refusals.specs.Refusals.{judge, write_refusal};

@@ -1,1 +1,2 @@
 // The chip's registers: laws about accesses to them, and nothing to call.
+#![tactic(auto)]

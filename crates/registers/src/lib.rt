@@ -1,4 +1,6 @@
 // What an access to a register of the chip stands for.
+#![tactic(auto)]
+
 ghost use Rattle.std.specs.Prelude.{◌≡◌};
 ghost use Rattle.registers.specs.Registers.{auxiliary_of, when_set, commanded, read_from, written_to, stands_for};
 
@@ -6,14 +8,14 @@ use effect::Act;
 use effect::calls::is_on;
 
 // An access by the offset of the register, and the value that is written.
-#[derive(Drop)]
+#[derive(Clone, Copy)]
 pub enum Access {
     Read(u8),
     Write(u8, u8),
 }
 
 // The chip's auxiliary commands that are carried, by its names for them.
-#[derive(Drop)]
+#[derive(Clone, Copy)]
 pub enum Auxiliary {
     Swrst,
     Nbaf,

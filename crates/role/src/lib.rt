@@ -1,4 +1,6 @@
 // A party's role: its name and flags, and what hearing does to them.
+#![tactic(auto)]
+
 ghost use Rattle.std.specs.Prelude.{◌≡◌};
 ghost use Rattle.role.specs.Roles.{unaddressed, with_flags, with_poll_mode, with_mark, with_response, flags_off};
 ghost use Rattle.role.specs.Roles.{without_address};
@@ -11,7 +13,7 @@ pub mod hearing;
 
 // What a secondary is for. Document 02, Q-3: "talk primary" and "listen primary", of which each clears the other; Q-8:
 // "configuring". The standard: TPAS, LPAS and PACS.
-#[derive(Drop)]
+#[derive(Clone, Copy)]
 pub enum Mark {
     Unmarked,
     TalkPrimary,
@@ -20,14 +22,14 @@ pub enum Mark {
 }
 
 // How a party answers a parallel poll: on which of the eight lines, from 0, and at which own status.
-#[derive(Drop)]
+#[derive(Clone, Copy)]
 pub enum Response {
     Unset,
     Set { sense: bool, line: u8 },
 }
 
 // What hearing reads and writes: the name, the flags talk, listen and poll mode, the mark, and the response.
-#[derive(Drop)]
+#[derive(Clone, Copy)]
 pub struct Role {
     pub name: Name,
     pub talk: bool,

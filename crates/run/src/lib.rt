@@ -1,4 +1,6 @@
 // A whole script: each record on the bus, and the text of the answers.
+#![tactic(auto)]
+
 ghost use Rattle.std.specs.Prelude.{◌≡◌, ◌+◌, ◌*◌, ◌/◌, ◌≤◌, length};
 ghost use Rattle.bus.specs.Record.{no_parties};
 ghost use Rattle.reader.specs.Record.{records};
@@ -78,7 +80,7 @@ fn put_text(script: &[u8], out: &mut [u8]) -> usize
     run_all(script, out)
 }
 
-#[derive(Drop)]
+#[derive(Clone, Copy)]
 pub enum Ran {
     // The number of bytes written.
     Wrote(usize),

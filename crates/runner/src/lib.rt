@@ -1,4 +1,6 @@
 // The runner: it gives a stated number of turns.
+#![tactic(auto)]
+
 ghost use Rattle.std.specs.Prelude.{◌≡◌, ◌+◌, ◌%◌, ◌<◌};
 ghost use Rattle.runner.specs.Ties.{by_address};
 ghost use Rattle.runner.specs.Runner.{give_turns};
@@ -11,7 +13,7 @@ use party::Place;
 mod order;
 
 // What a run answers: how many turns each place had, and the bus after them.
-#[derive(Drop)]
+#[derive(Clone, Copy)]
 pub struct Given {
     pub refusal: Refusal,
     pub counts: [u16; 15],

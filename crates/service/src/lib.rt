@@ -1,11 +1,13 @@
 // The request for service: the poll register, the second request bit and the service state; how it settles, and what a
 // status byte leaves of it.
+#![tactic(auto)]
+
 ghost use Rattle.std.specs.Prelude.{◌≡◌, ◌≤◌};
 ghost use Rattle.service.specs.Service.{aprs_bit, status, service_settled, live_settled, request_settled, with_saved};
 ghost use Rattle.service.specs.Service.{with_rsv2, rsv2_kept, reported};
 
 // The service request.
-#[derive(Drop)]
+#[derive(Clone, Copy)]
 pub enum Service {
     Nprs,
     Srqs,
@@ -13,7 +15,7 @@ pub enum Service {
 }
 
 // The poll register, live and saved, the second request bit, and the service state.
-#[derive(Drop)]
+#[derive(Clone, Copy)]
 pub struct Request {
     pub live: u8,
     pub saved: u8,

@@ -1,4 +1,6 @@
 // The source step.
+#![tactic(auto)]
+
 ghost use Rattle.std.specs.Prelude.{◌≡◌};
 ghost use Rattle.source_step.specs.Types.{Command};
 ghost use Rattle.source_step.specs.SourceStep.{put, noacc, offering, ready, pass_to, ended_byte, ended, source_step};

@@ -1,5 +1,7 @@
 // The text of an answer: one line of busrun's output, written into a lent buffer.
 // Each says what it wrote, where the next text goes, and that it stayed inside the buffer: `Wrote` in specs/Text.antt.
+#![tactic(auto)]
+
 ghost use Rattle.std.specs.Prelude.{◌≡◌, ◌+◌, ◌<◌, ◌≤◌, ◌/◌, ◌%◌, length};
 ghost use Rattle.text.specs.Text.{Wrote, Put, digit_of, hex_of, decimal_of, number_text, byte_text, head_text};
 ghost use Rattle.text.specs.Text.{event_text, counts_text, line_of};
