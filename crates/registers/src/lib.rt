@@ -29,6 +29,7 @@ pub enum Auxiliary {
     NotCarried,
 }
 
+#[tactic(auto, unfolding(crate::specs::Registers::auxiliary_of))]
 fn auxiliary_of(code: u8) -> Auxiliary
     ensures { result ≡ auxiliary_of code }
 {
