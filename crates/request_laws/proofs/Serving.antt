@@ -310,7 +310,7 @@ module _ (b : Bus) (I : Inv b) (c : Call) (ok : is_accepted (m.refusal (lines b)
 
   pub own_bit : i < b.count → (here a.bus i).request.rsv2 ≡ e.party.request.rsv2
   own_bit l = ap (λ (q : Request). q.rsv2) (next i l) ∙ bit_settled (polled_on a.bus i) (left b I i room e i)
-      ∙ rw (eq-eqb i i refl) refl
+      ∙ ap (λ (x : Bool). (cond x e.party (here b i)).request.rsv2) (eq-eqb i i refl)
 
 -- a step that puts a status byte
 module _ (b : Bus) (I : Inv b) (j : ℕ) (ok : is_accepted (m.refusal (lines b) b (call_of.Of (place j) act_of.Step)) ≡
