@@ -17,6 +17,7 @@ pub enum Order {
     Unknown,
 }
 
+#[tactic(auto, unfolding(crate::specs::Orders::order_of))]
 pub fn order_of(op: u8, party: u8, value: u8, extra: u8) -> Order
     ensures { result ≡ order_of op party value extra }
 {
@@ -80,6 +81,7 @@ fn build_from(system: Place, n: u8, first: u8) -> Answer
 }
 
 // The answer to an order.
+#[tactic(auto, unfolding(crate::specs::Orders::obey))]
 pub fn obey(b: Bus, o: Order) -> Answer
     ensures { result ≡ obey b o }
 {
