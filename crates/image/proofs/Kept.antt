@@ -13,7 +13,7 @@ use Rattle.image.specs.Types.{Configuring, Response, Unset, Set}
 use Rattle.image.specs.Types.{Control, Idle, Standby, Active, Source, Sids, Sgns, Sdys, Strs, Acceptor, Aids}
 use Rattle.image.specs.Types.{Anrs, Acrs, Acds, Awns}
 use Rattle.image.specs.Types.{Service, Nprs, Srqs, Aprs, Slot, Empty, Full, Command, Data, Status, Standing}
-use Rattle.image.specs.Types.{Nothing, Byte, Bus}
+use Rattle.image.specs.Types.{Nothing, Byte}
 use Rattle.image.specs.Image.{mark_number, has_secondary, secondary_number, control_number, source_number}
 use Rattle.image.specs.Image.{acceptor_number, service_number, slot_value, slot_end, standing_tag, standing_sender}
 use Rattle.image.specs.Image.{standing_value, response_tag, response_line, row_of, last_row, rows_of}
@@ -66,7 +66,8 @@ response_kept Unset = refl
 response_kept (Set true line) = refl
 response_kept (Set false line) = refl
 
-standing_kept : (x : Standing) → standing_of (standing_tag x) (standing_sender x) (standing_value x) (one (has_end x)) ≡ x
+standing_kept : (x : Standing)
+    → standing_of (standing_tag x) (standing_sender x) (standing_value x) (one (has_end x)) ≡ x
 standing_kept Nothing = refl
 standing_kept (Byte s Command v e) = ap (Byte s Command v) (flag_kept e)
 standing_kept (Byte s Data v e) = ap (Byte s Data v) (flag_kept e)

@@ -34,7 +34,10 @@ pub row_by_parts : (p : Party) {a₁ a₂ a₃ a₄ a₅ a₆ a₇ a₈ a₉ a�
     → a₂₁ ≡ response_tag p.role.response
     → a₂₂ ≡ response_line p.role.response
     → a₂₃ ≡ one p.latches.ist
-    → ◌≡◌ {A = List ℕ} (p.role.name.address.0 ∷ a₁ ∷ a₂ ∷ a₃ ∷ a₄ ∷ a₅ ∷ a₆ ∷ a₇ ∷ a₈ ∷ a₉ ∷ a₁₀ ∷ a₁₁ ∷ a₁₂ ∷ p.request.live ∷ p.request.saved ∷ a₁₅ ∷ a₁₆ ∷ a₁₇ ∷ a₁₈ ∷ a₁₉ ∷ a₂₀ ∷ a₂₁ ∷ a₂₂ ∷ a₂₃ ∷ []) (row_of p)
+    → ◌≡◌ {A = List ℕ}
+    (p.role.name.address.0 ∷ a₁ ∷ a₂ ∷ a₃ ∷ a₄ ∷ a₅ ∷ a₆ ∷ a₇ ∷ a₈ ∷ a₉ ∷ a₁₀ ∷ a₁₁ ∷ a₁₂
+    ∷ p.request.live ∷ p.request.saved ∷ a₁₅ ∷ a₁₆ ∷ a₁₇ ∷ a₁₈ ∷ a₁₉ ∷ a₂₀ ∷ a₂₁ ∷ a₂₂ ∷ a₂₃ ∷ [])
+    (row_of p)
 row_by_parts p e₁ e₂ e₃ e₄ e₅ e₆ e₇ e₈ e₉ e₁₀ e₁₁ e₁₂ e₁₅ e₁₆ e₁₇ e₁₈ e₁₉ e₂₀ e₂₁ e₂₂ e₂₃ = cc
 
 pub bus_by_parts : (ps : List Party) (r : List ℕ) {s : Standing}

@@ -190,6 +190,7 @@ fn parties_of(rows: [[u8; 24]; 16]) -> [Party; 15]
 }
 
 // Every content is read as some bus.
+#[tactic(auto, unfolding(crate::specs::Image::bus_of))]
 pub fn bus_of(rows: [[u8; 24]; 16]) -> Bus
     ensures { result ≡ bus_of rows }
 {
