@@ -19,6 +19,7 @@ const LONGEST: usize = 65532;
 // 34 bytes for each line that a script can have.
 pub const ROOM: usize = 371348;
 
+#[tactic(auto, unfolding(crate::specs::Run::answer_to))]
 fn answer_to(b: Bus, next: Next) -> Answer
     ensures { result ≡ answer_to b next }
 {
@@ -59,6 +60,7 @@ fn run_all(script: &[u8], out: &mut [u8]) -> usize
 }
 
 // The most lines that a script can have.
+#[tactic(auto, unfolding(crate::specs::Run::line_count))]
 fn line_count(script: &[u8]) -> usize
     ensures { result ≡ line_count script.now }
 {
