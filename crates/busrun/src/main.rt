@@ -5,8 +5,11 @@ ghost use Rattle.std.specs.Prelude.{◌≡◌, List, ℕ, ◌<◌, length, take}
 ghost use Rattle.io.specs.Counts.{IsPrefixLen};
 ghost use Rattle.run.specs.Run.{Printed};
 
-use libc::{STDIN_FILENO, STDOUT_FILENO};
 use run::ROOM;
+
+// The descriptors of standard input and output.
+const STDIN: i32 = 0;
+const STDOUT: i32 = 1;
 
 // One byte more than a script may have.
 const READ: usize = 65533;
@@ -25,7 +28,7 @@ fn run_front(read: &[u8], n: usize, out: &mut [u8; ROOM]) -> usize
 fn main() {
     let mut read = [0u8; READ];
     let mut out = [0u8; ROOM];
-    let n = io::read_full(STDIN_FILENO, &mut read);
+    let n = io::read_full(STDIN, &mut read);
     let k = run_front(&read, n, &mut out);
-    io::write_all(STDOUT_FILENO, &out[..k]);
+    io::write_all(STDOUT, &out[..k]);
 }

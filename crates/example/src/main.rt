@@ -3,15 +3,17 @@
 #![tactic(auto)]
 
 use bus::{Answer, Bus};
-use libc::STDOUT_FILENO;
 use party::Place;
 use text::put_line;
+
+// The descriptor of standard output.
+const STDOUT: i32 = 1;
 
 // The line of an answer; the bus after it.
 fn show(n: usize, a: Answer) -> Bus {
     let mut line = [0u8; 34];
     let end = put_line(n, a, &mut line, 0);
-    io::write_all(STDOUT_FILENO, &line[..end]);
+    io::write_all(STDOUT, &line[..end]);
     a.bus
 }
 

@@ -6,6 +6,7 @@ use bus::{Answer, Bus};
 use effect::Refusal;
 
 // Any operation other than build.
+#[tactic(auto, unfolding(crate::specs::Host::answer_by_number))]
 pub fn answer_by_number(b: Bus, op: u8, party: u8, value: u8, extra: u8) -> Answer
     ensures { result ≡ answer_by_number b op party value extra }
 {
