@@ -15,8 +15,7 @@ use party::Place;
 use refusals::is_inside;
 
 // A build of parties without secondaries. What the rows held before does not matter.
-#[unsafe(no_mangle)]
-pub extern "C" fn meskvorn_build(bus: &mut [[u8; 24]; 16], addresses: &[u8], system: u8) -> u64
+pub fn meskvorn_build(bus: &mut [[u8; 24]; 16], addresses: &[u8], system: u8) -> u64
     ensures { Built (build addresses.now (place system)) bus.new result }
 {
     let a = Bus::build(addresses, Place(system));
@@ -26,8 +25,7 @@ pub extern "C" fn meskvorn_build(bus: &mut [[u8; 24]; 16], addresses: &[u8], sys
 }
 
 // The same with the parties' secondaries, 255 where a party has none. The list is empty, or as long as the addresses.
-#[unsafe(no_mangle)]
-pub extern "C" fn meskvorn_build_extended(
+pub fn meskvorn_build_extended(
     bus: &mut [[u8; 24]; 16],
     addresses: &[u8],
     secondaries: &[u8],
@@ -58,8 +56,7 @@ fn name_number(b: Bus, p: Place) -> u16
 }
 
 // What a build named a party on the bus that the rows hold.
-#[unsafe(no_mangle)]
-pub extern "C" fn meskvorn_name(bus: &[[u8; 24]; 16], party: u8) -> u16
+pub fn meskvorn_name(bus: &[[u8; 24]; 16], party: u8) -> u16
     ensures { result ≡ name_number (bus_of bus.now) party }
 {
     let rows = *bus;

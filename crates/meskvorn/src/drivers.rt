@@ -23,8 +23,7 @@ fn count_list(n: Counts) -> [u32; 6]
 
 // Who drives each line of the bus that the rows hold, to masks, and how many, to counts: ATN, DAV, NRFD, NDAC, EOI,
 // SRQ. Gives the answer, which is never a refusal.
-#[unsafe(no_mangle)]
-pub extern "C" fn meskvorn_drivers(
+pub fn meskvorn_drivers(
     bus: &mut [[u8; 24]; 16],
     masks: &mut [u16; 6],
     counts: &mut [u32; 6],

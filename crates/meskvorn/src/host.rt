@@ -29,14 +29,7 @@ fn reply(bus: &mut [[u8; 24]; 16], a: Answer) -> u64
 }
 
 // Any operation other than build.
-#[unsafe(no_mangle)]
-pub extern "C" fn meskvorn_call(
-    bus: &mut [[u8; 24]; 16],
-    op: u8,
-    party: u8,
-    value: u8,
-    extra: u8,
-) -> u64
+pub fn meskvorn_call(bus: &mut [[u8; 24]; 16], op: u8, party: u8, value: u8, extra: u8) -> u64
     ensures { Replied (answer_by_number (bus_of bus.old) op party value extra)
         bus.old bus.new result }
 {
@@ -46,8 +39,7 @@ pub extern "C" fn meskvorn_call(
 }
 
 // What a party's register at an offset holds.
-#[unsafe(no_mangle)]
-pub extern "C" fn meskvorn_read_register(bus: &mut [[u8; 24]; 16], party: u8, offset: u8) -> u64
+pub fn meskvorn_read_register(bus: &mut [[u8; 24]; 16], party: u8, offset: u8) -> u64
     ensures { Replied (accessed (bus_of bus.old) (place party) (access.Read offset))
         bus.old bus.new result }
 {
@@ -57,13 +49,7 @@ pub extern "C" fn meskvorn_read_register(bus: &mut [[u8; 24]; 16], party: u8, of
 }
 
 // A value for a party's register at an offset.
-#[unsafe(no_mangle)]
-pub extern "C" fn meskvorn_write_register(
-    bus: &mut [[u8; 24]; 16],
-    party: u8,
-    offset: u8,
-    value: u8,
-) -> u64
+pub fn meskvorn_write_register(bus: &mut [[u8; 24]; 16], party: u8, offset: u8, value: u8) -> u64
     ensures { Replied (accessed (bus_of bus.old) (place party) (access.Write offset value))
         bus.old bus.new result }
 {
@@ -73,8 +59,7 @@ pub extern "C" fn meskvorn_write_register(
 }
 
 // A party's own status, 0 or 1.
-#[unsafe(no_mangle)]
-pub extern "C" fn meskvorn_own_status(bus: &mut [[u8; 24]; 16], party: u8, value: u8) -> u64
+pub fn meskvorn_own_status(bus: &mut [[u8; 24]; 16], party: u8, value: u8) -> u64
     ensures { Replied (call (bus_of bus.old) (call_of.Of (place party) (act_of.OwnStatus value)))
         bus.old bus.new result }
 {
@@ -84,8 +69,7 @@ pub extern "C" fn meskvorn_own_status(bus: &mut [[u8; 24]; 16], party: u8, value
 }
 
 // A parallel poll by a party.
-#[unsafe(no_mangle)]
-pub extern "C" fn meskvorn_parallel_poll(bus: &mut [[u8; 24]; 16], party: u8) -> u64
+pub fn meskvorn_parallel_poll(bus: &mut [[u8; 24]; 16], party: u8) -> u64
     ensures { Replied (call (bus_of bus.old) (call_of.Of (place party) act_of.ParallelPoll))
         bus.old bus.new result }
 {

@@ -1,4 +1,4 @@
-// What a C or Rust program links: the functions under these names.
+// What C and Rust programs call, on a bus that they keep as rows of bytes; meskvorn_c has these functions for the linker.
 #![tactic(auto)]
 
 ghost use Rattle.std.specs.Prelude.{◌≡◌};
@@ -25,8 +25,7 @@ fn count_of(r: Ran) -> usize
 
 // Runs a script and writes its text at the start of out, if that has 34 bytes for each line. Gives the number of bytes
 // written.
-#[unsafe(no_mangle)]
-pub extern "C" fn meskvorn_run(script: &[u8], out: &mut [u8]) -> usize
+pub fn meskvorn_run(script: &[u8], out: &mut [u8]) -> usize
     ensures { RanTo script.now out.old out.new result }
 {
     count_of(run::run(script, out))

@@ -8,8 +8,7 @@ use runner::give_turns;
 
 // So many turns on the bus that the rows hold, each to the party that has waited longest, ties by address. Gives the
 // number of the refusal, and to counts how many turns each place had. A refused run leaves the rows byte for byte.
-#[unsafe(no_mangle)]
-pub extern "C" fn meskvorn_turns(bus: &mut [[u8; 24]; 16], turns: u16, counts: &mut [u16; 15]) -> u8
+pub fn meskvorn_turns(bus: &mut [[u8; 24]; 16], turns: u16, counts: &mut [u16; 15]) -> u8
     ensures { Gave (turns_given (bus_of bus.old) turns)
         bus.old bus.new counts.new result }
 {
