@@ -4,17 +4,12 @@ ghost use Rattle.meskvorn.specs.Host.{turns_given, Gave};
 
 use image::reading::bus_of;
 use image::writing::rows_of;
-use runner::give_turns;
+use runner::{Given, give_turns};
 
-// So many turns on the bus that the rows hold, each to the party that has waited longest, ties by address. Gives the
-// number of the refusal, and to counts how many turns each place had. A refused run leaves the rows byte for byte.
-pub fn meskvorn_turns(bus: &mut [[u8; 24]; 16], turns: u16, counts: &mut [u16; 15]) -> u8
-    ensures { Gave (turns_given (bus_of bus.old) turns)
-        bus.old bus.new counts.new result }
+// What the turns gave, to the counts and to the rows, and the refusal's number. A refused run leaves the rows.
+fn hand_over(bus: &mut [[u8; 24]; 16], counts: &mut [u16; 15], given: Given) -> u8
+    ensures { Gave given bus.old bus.new counts.new result }
 {
-    let rows = *bus;
-    let before = bus_of(rows);
-    let given = give_turns(before, turns);
     let refusal = given.refusal;
     let had = given.counts;
     *counts = had;
@@ -24,4 +19,15 @@ pub fn meskvorn_turns(bus: &mut [[u8; 24]; 16], turns: u16, counts: &mut [u16; 1
         return refusal.number();
     }
     refusal.number()
+}
+
+// So many turns on the bus that the rows hold, each to the party that has waited longest, ties by address. Gives the
+// number of the refusal, and to counts how many turns each place had. A refused run leaves the rows byte for byte.
+pub fn meskvorn_turns(bus: &mut [[u8; 24]; 16], turns: u16, counts: &mut [u16; 15]) -> u8
+    ensures { Gave (turns_given (bus_of bus.old) turns)
+        bus.old bus.new counts.new result }
+{
+    let rows = *bus;
+    let before = bus_of(rows);
+    hand_over(bus, counts, give_turns(before, turns))
 }
