@@ -39,7 +39,8 @@ name_plain (a ∷ xs) [] (suc i) d h l = name_plain xs [] i d (le_of_suc-le-suc 
 name_plain (a ∷ xs) (s ∷ ss) (suc i) d h l = name_plain xs ss i d (le_of_suc-le-suc h) (le_of_suc-le-suc l)
 
 pub name_both : (xs ss : List ℕ) (i : ℕ) (d : Name) → i < length xs → i < length ss
-    → get_or (names xs ss) i d ≡ record { address = address (get_or xs i 0); secondary = secondary_given (get_or ss i 0) }
+    → get_or (names xs ss) i d ≡
+    record { address = address (get_or xs i 0); secondary = secondary_given (get_or ss i 0) }
 name_both [] ss i d h l = absurd (not-suc-le-zero h)
 name_both (a ∷ xs) [] i d h l = absurd (not-suc-le-zero l)
 name_both (a ∷ xs) (s ∷ ss) zero d h l = refl

@@ -55,5 +55,6 @@ module _ (xs : List Name) (s : Place) (ok : bad_build xs s ≡ false) where
   pub fits : length xs ≤ 15
   fits = ltb-false 15 (length xs) neither.0
 
-  pub apart : (i j : ℕ) → i < length xs → j < length xs → clashes (get_or xs i beyond) (get_or xs j beyond) ≡ true → i ≡ j
+  pub apart : (i j : ℕ) → i < length xs → j < length xs → clashes (get_or xs i beyond) (get_or xs j beyond) ≡ true
+      → i ≡ j
   apart = distinct xs neither.1

@@ -91,7 +91,8 @@ module _ (n p w v : ℕ) (e : Bool) where
     own_source = rw (B.quiet, nobody p, B.talks) refl
 
     other_source : (i : ℕ) → (i ≡ p → ⊥) → is_source (atn_of b) (here b i) ≡ false
-    other_source i ne = test (is_source (atn_of b) (here b i)) (λ h. absurd (ne (one_source_lem b B.inv i p h own_source)))
+    other_source i ne = test (is_source (atn_of b) (here b i)) (λ h. absurd (ne (one_source_lem b B.inv i p h
+        own_source)))
         (λ h. h)
 
     accepts : (i : ℕ) → i < n → (i ≡ p → ⊥) → Accepts b i
@@ -189,7 +190,8 @@ module _ (n p w v : ℕ) (e : Bool) where
       };
       lowers = record {
         other = λ j nj. ap rank (other_kept b B.inv i A j nj);
-        own = rw (acc, in_sids_lem c Bc i ne, in_sids_lem b B i ne) (let z = tick_rank (here b i).acceptor in omega arith);
+        own = rw (acc, in_sids_lem c Bc i ne, in_sids_lem b B i ne)
+            (let z = tick_rank (here b i).acceptor in omega arith);
       };
       quiet = silent i still;
       held_up = λ h. absurd (ne h);
@@ -275,10 +277,12 @@ module _ (n p w v : ℕ) (e : Bool) where
     its_kind : kind_of (is_active P) (is_polled (atn_of b) P) ≡ Data
     its_kind = rw (nobody b B p, B.quiet, B.talks, O.unpolled) refl
 
-    as_moved : P.source ≡ Sgns → m.call b (step_of p) ≡ local b p (say ev.Moved 0 false 0) (with_source Sdys P) b.standing
+    as_moved : P.source ≡ Sgns → m.call b (step_of p) ≡ local b p (say ev.Moved 0 false 0) (with_source Sdys P)
+        b.standing
     as_moved h = as_sends b B ∙ rw (h, offered) (touched (say ev.Moved 0 false 0) (with_source Sdys P))
 
-    as_ready : P.source ≡ Sdys → m.call b (step_of p) ≡ follow (atn_of b) b p (let w = m.view_at (place p) (lines b) b in
+    as_ready : P.source ≡ Sdys → m.call b (step_of p) ≡ follow (atn_of b) b p
+        (let w = m.view_at (place p) (lines b) b in
         cond (lines b).nrfd (stay w) (cond (lines b).ndac (put Data v e w) (noacc Data v e w)))
     as_ready h = as_sends b B ∙ rw (h, offered, its_kind) refl
 

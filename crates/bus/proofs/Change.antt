@@ -103,7 +103,8 @@ keep_pre n atn v st P i l q K o = record {
   plain = P.plain;
   polled = upd_all v i q (λ j x. sent_by j st ≡ true → is_polled atn x ≡ true → stands_of of_status st ≡ true)
       (λ h e. P.polled i h (K.polled (P.sent i h) e)) (λ j ne. P.polled j);
-  polls = upd_all v i q (λ j x. sent_by j st ≡ true → stands_of of_status st ≡ true → is_source atn x ≡ true → is_polled atn
+  polls = upd_all v i q (λ j x. sent_by j st ≡ true → stands_of of_status st ≡ true → is_source atn x ≡ true
+      → is_polled atn
       x ≡ true)
       (λ h s e. let r = K.polls (P.sent i h) e in r.1 (P.polls i h s r.0))
       (λ j ne. P.polls j);

@@ -240,7 +240,8 @@ module _ (n : ℕ) (ps : List Party) (l : n ≤ length ps) (tail : (j : ℕ) →
   seen st e P = subst₂ (λ (x : Bool) (w : ℕ → Party). Pre n x w st)
       (sym (some_each n is_active (settled t) ps (λ p. refl) ∙ e)) (sym as_seen) P
 
-  pub seen_still : some n is_active ps ≡ t → Still (some n is_active (each n (settled t) ps)) (at (each n (settled t) ps))
+  pub seen_still : some n is_active ps ≡ t → Still (some n is_active (each n (settled t) ps)) (at (each n (settled t)
+      ps))
   seen_still e = subst₂ (λ (x : Bool) (w : ℕ → Party). Still x w)
       (sym (some_each n is_active (settled t) ps (λ p. refl) ∙ e)) (sym as_seen) (λ j. settled_twice t (at ps j))
 
@@ -261,7 +262,8 @@ settle_inv b t s ps st z l a P = record {
         → Pre b.count t (λ j. settled t (at ps j)) (cond x Nothing st)
     go st P false e = kept_pre b.count t (at ps) st P (source st e)
       where
-        source : (st : Standing) → deserted t ps st ≡ false → (j : ℕ) → sent_by j st ≡ true → is_source t (at ps j) ≡ true
+        source : (st : Standing) → deserted t ps st ≡ false → (j : ℕ) → sent_by j st ≡ true
+            → is_source t (at ps j) ≡ true
         source Nothing e j h = no (cc)
         source (Byte r k v x) e j h = rw (eqb-true j r.0 h) (not_false (is_source t (at ps r.0)) e)
     go st P true e = broken_pre b.count t (at ps) st (plain st P e) P (λ j h r. lost st P e j (P.sends j r) h)

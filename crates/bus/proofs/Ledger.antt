@@ -41,7 +41,8 @@ module _ (b : Bus) (cs : List Call)
 
   -- what call i put up stands when call k comes, on the bus
   abbrev Up : ℕ → ℕ → Type 0
-  Up i k = (s : Place) × (d : Kind) × ((bus_at b cs k).standing ≡ Byte s d (answer_at b cs i).byte (answer_at b cs i).end)
+  Up i k = (s : Place) × (d : Kind) × ((bus_at b cs k).standing
+      ≡ Byte s d (answer_at b cs i).byte (answer_at b cs i).end)
 
   onwards : (k : ℕ) (st : Standing) → suc k < length cs → (answer_at b cs k).bus.standing ≡ st
       → (bus_at b cs (suc k)).standing ≡ st
@@ -218,7 +219,8 @@ module _ (b : Bus) (cs : List Call)
       T : Takes (bus_at b cs k) (answer_at b cs k) p
       T = (G k l).takes t.2 p t.1
 
-      w : (s : Place) × (d : Kind) × ((bus_at b cs k).standing ≡ Byte s d (answer_at b cs k).byte (answer_at b cs k).end)
+      w : (s : Place) × (d : Kind) × ((bus_at b cs k).standing
+          ≡ Byte s d (answer_at b cs k).byte (answer_at b cs k).end)
       w = T.what
 
       u : Up i k
@@ -235,7 +237,8 @@ module _ (b : Bus) (cs : List Call)
   pub taken : (p k : ℕ) → TakesAt b cs p k → (i : ℕ) × Taken b cs p k i
   taken p k t = (found.0, taken_of p k found.0 found.1 t)
     where
-      w : (s : Place) × (d : Kind) × ((bus_at b cs k).standing ≡ Byte s d (answer_at b cs k).byte (answer_at b cs k).end)
+      w : (s : Place) × (d : Kind) × ((bus_at b cs k).standing
+          ≡ Byte s d (answer_at b cs k).byte (answer_at b cs k).end)
       w = ((G k t.0).takes t.2 p t.1).what
 
       found : (i : ℕ) × StandsAt b cs i k

@@ -64,7 +64,8 @@ pub record Seated (b : Bus) (i : ℕ) (q : Party) : Type 0 where
   pub empty : atn_of b ≡ false → q.acceptor ≡ Acrs → is_full q.input ≡ false
   pub polled : (here b i).source ≡ Strs → is_polled (atn_of b) q ≡ true → is_polled (atn_of b) (here b i) ≡ true
   pub polls : (here b i).source ≡ Strs → is_source (atn_of b) q ≡ true
-      → (is_source (atn_of b) (here b i) ≡ true) × (is_polled (atn_of b) (here b i) ≡ true → is_polled (atn_of b) q ≡ true)
+      → (is_source (atn_of b) (here b i) ≡ true) × (is_polled (atn_of b) (here b i) ≡ true
+      → is_polled (atn_of b) q ≡ true)
   pub claims : Weak (look b.standing i (here b i)) (look b.standing i q)
 
 module _ (b : Bus) (c : Call) (I : Inv b) (i : ℕ) (l : i < b.count) where

@@ -33,7 +33,8 @@ use Rattle.bus.proofs.Summary.{Good, inside, set_held, pass_good}
 use Rattle.bus.proofs.ControlCalls.{set_len}
 
 module _ (b : Bus) (I : Inv b) (p : Place) (l : p.0 < b.count) (v : ℕ) (e : Bool)
-    (es : b.standing ≡ Byte p Command v e) (nd : (lines b).ndac ≡ false) (em : passes_control (meaning_of v) ≡ true) where
+    (es : b.standing ≡ Byte p Command v e) (nd : (lines b).ndac ≡ false) (em : passes_control (meaning_of v)
+    ≡ true) where
   heard : Party
   heard = with_source Sgns (party_heard v (here b p.0))
 

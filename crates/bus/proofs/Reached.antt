@@ -68,7 +68,8 @@ module _ (b : Bus) (I : Inv b) where
   settled_already = I.still
 
   -- two parties are never sources at once
-  pub one_source_lem : (i j : ℕ) → is_source (atn_of b) (here b i) ≡ true → is_source (atn_of b) (here b j) ≡ true → i ≡ j
+  pub one_source_lem : (i j : ℕ) → is_source (atn_of b) (here b i) ≡ true → is_source (atn_of b) (here b j) ≡ true
+      → i ≡ j
   one_source_lem = source_unique b.count (atn_of b) (here b) b.standing I.pre
 
   -- a listener takes part in the handshake where ATN is false, and nobody else does

@@ -3,7 +3,8 @@
 -- Calls of a list are counted from 0. `i` is a call that puts a byte up, `k` and `l` calls that come later, `p` and `q`
 -- parties.
 -- Assumes nothing.
-use Rattle.std.specs.Prelude.{◌≡◌, Bool, true, false, ◌&&◌, ◌||◌, List, [], ◌∷◌, ◌⊎◌, ℕ, ◌+◌, ◌<◌, eqb, length, get_or, take}
+use Rattle.std.specs.Prelude.{◌≡◌, Bool, true, false, ◌&&◌, ◌||◌, List, [], ◌∷◌, ◌⊎◌, ℕ, ◌+◌, ◌<◌, eqb, length}
+use Rattle.std.specs.Prelude.{get_or, take}
 use Rattle.party.specs.Parts.{one, held_bytes}
 use Rattle.parties.specs.Places.{place, total}
 use Rattle.bus.specs.Types.{Place, Name, Active, Strs, Acrs, Acds, Full, Event, Bus, Answer, Call, Refusal}
@@ -42,7 +43,8 @@ is_put x = elim (deed x) [ puts_host ↦ true | puts_status ↦ true | takes ↦
 
 -- "Puts are the events cmd, data and stat, status bytes the events stat": a byte put up that is no status byte.
 abbrev pub is_host_put : Event → Bool
-is_host_put x = elim (deed x) [ puts_host ↦ true | puts_status ↦ false | takes ↦ false | ends ↦ false | neither ↦ false ]
+is_host_put x =
+    elim (deed x) [ puts_host ↦ true | puts_status ↦ false | takes ↦ false | ends ↦ false | neither ↦ false ]
 
 abbrev pub is_take : Event → Bool
 is_take x = elim (deed x) [ puts_host ↦ false | puts_status ↦ false | takes ↦ true | ends ↦ false | neither ↦ false ]
@@ -158,7 +160,8 @@ module _ (b : Bus) (cs : List Call) where
     -- "at most one party drives DAV, at most one ATN": on every bus of the list. "A party drives DAV in STRS, and ATN
     -- when it is active."
     pub one_dav : (k p q : ℕ) → (here (bus_after k) p).source ≡ Strs → (here (bus_after k) q).source ≡ Strs → p ≡ q
-    pub one_atn : (k p q : ℕ) → (here (bus_after k) p).control ≡ Active → (here (bus_after k) q).control ≡ Active → p ≡ q
+    pub one_atn : (k p q : ℕ) → (here (bus_after k) p).control ≡ Active → (here (bus_after k) q).control ≡ Active
+        → p ≡ q
     -- "nothing is taken but a byte that stands", and what is taken is as `Taken` says
     pub taken : (p k : ℕ) → TakesAt p k → (i : ℕ) × Taken p k i
     -- nor is anything taken unsaid: who goes from ACRS to ACDS in a call took by its own step, with event took, heard,

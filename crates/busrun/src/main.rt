@@ -9,6 +9,7 @@ use run::ROOM;
 
 // The descriptors of standard input and output.
 const STDIN: i32 = 0;
+
 const STDOUT: i32 = 1;
 
 // One byte more than a script may have.

@@ -1,4 +1,4 @@
-// What C and Rust programs call, on a bus that they keep as rows of bytes; meskvorn_c has these functions for the linker.
+// What C and Rust programs call, on a bus that they keep as rows of bytes. What they link is meskvorn_c.
 #![tactic(auto)]
 
 ghost use Rattle.std.specs.Prelude.{◌≡◌};

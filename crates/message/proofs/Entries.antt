@@ -19,7 +19,8 @@ from f d (suc n) i zero h = ap f (sym (add-zero i))
 from f d (suc n) i (suc k) h = from f d n (suc i) k (le_of_suc-le-suc h) ∙ ap f (suc-add i k ∙ sym (add-suc i k))
 
 -- one equation of lists, computed, is an equation at each place
-pub at : {A : Type 0} (f : ℕ → A) (d : A) (l : List A) (n : ℕ) → l ≡ tabulate f 0 n → (k : ℕ) → k < n → get_or l k d ≡ f k
+pub at : {A : Type 0} (f : ℕ → A) (d : A) (l : List A) (n : ℕ) → l ≡ tabulate f 0 n → (k : ℕ) → k < n
+    → get_or l k d ≡ f k
 at {A = A} f d l n e k h = ap (λ (t : List A). get_or t k d) e ∙ from f d n 0 k h ∙ ap f (zero-add k)
 
 -- what the table says of a byte, decoded with the byte's low five bits, is the byte's meaning

@@ -21,7 +21,8 @@ meets_extended Absent y e = no (cc)
 meets_extended (Given s) Absent e = no (cc)
 meets_extended (Given s) (Given t) e = (refl, refl)
 
-pub given_meets : (s : SecondaryAddress) (x y : Secondary) → is_given s x ≡ true → is_given s y ≡ true → meets x y ≡ true
+pub given_meets : (s : SecondaryAddress) (x y : Secondary) → is_given s x ≡ true → is_given s y ≡ true
+    → meets x y ≡ true
 given_meets s Absent y e f = no (cc)
 given_meets s (Given t) Absent e f = no (cc)
 given_meets s (Given t) (Given v) e f = eq-eqb t.0 v.0 (sym (eqb-true s.0 t.0 e) ∙ eqb-true s.0 v.0 f)

@@ -115,7 +115,8 @@ module _ (b : Bus) (I : Inv b) (x : ℕ) (n : NoSource b x) where
       go (inl A) = other_kept b I x A k ne
       go (inr h) = rw (after_turn, no_step b x h) refl
 
-  pub source_kept : (k : ℕ) → is_source (atn_of (after_turn b x)) (here (after_turn b x) k) ≡ is_source (atn_of b) (here b k)
+  pub source_kept : (k : ℕ) → is_source (atn_of (after_turn b x)) (here (after_turn b x) k)
+      ≡ is_source (atn_of b) (here b k)
   source_kept k = test (eqb k x) (λ e. rw (eqb-true k x e) (go (turn b x n)))
       (λ e. let S = alike_other k (eqb-false k x e) in rw (S.around.atn, S.party) refl)
     where

@@ -69,7 +69,8 @@ alike_by_itself zero k b c I J S h = record { bus = S; answers = refl }
 alike_by_itself (suc n) k b c I J S h =
     let s = h (omega arith) in
     one_more n k b c
-    (alike_by_itself n k (after_turn b k) (after_turn c k) (inv_after b I k) (inv_after c J k) (alike_after k b c I J S s)
+    (alike_by_itself n k (after_turn b k) (after_turn c k) (inv_after b I k) (inv_after c J k) (alike_after k b c I J S
+    s)
     (λ _. still_none b I k s k s))
     (same_answer k b c I J S s)
 
@@ -114,7 +115,8 @@ comes_more b I x xs N k R = test (eqb k x) own other
         let z : turns_in k xs ≡ 0 + turns_in k xs = omega arith in
         record {
           bus = rw (e, sym z) (alike_trans k (m.run (after_turn b x) (steps xs))
-              (left_by_own_turns (after_turn b x) k (turns_in k xs)) (left_by_own_turns b k (turns_in k xs)) R.bus U.bus);
+              (left_by_own_turns (after_turn b x) k (turns_in k xs)) (left_by_own_turns b k (turns_in k xs)) R.bus
+              U.bus);
           answers = rw (e, sym z) (R.answers ∙ U.answers);
         }
 

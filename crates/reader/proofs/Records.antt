@@ -30,7 +30,8 @@ one : (s : List ℕ) (at k : ℕ) → at + k < length s → drop (at + k) s ≡ 
 one s at k h = drop-cons s (at + k) 0 h ∙ ap (λ (m : ℕ). get_or s (at + k) 0 ∷ drop m s) (sym (add-suc at k))
 
 six : (s : List ℕ) (at : ℕ) → at + 6 ≤ length s
-    → drop at s ≡ get_or s at 0 ∷ get_or s (at + 1) 0 ∷ get_or s (at + 2) 0 ∷ get_or s (at + 3) 0 ∷ get_or s (at + 4) 0 ∷ get_or s
+    → drop at s ≡ get_or s at 0 ∷ get_or s (at + 1) 0 ∷ get_or s (at + 2) 0 ∷ get_or s (at + 3) 0 ∷ get_or s (at + 4) 0
+    ∷ get_or s
     (at + 5) 0 ∷ drop (at + 6) s
 six s at h =
     drop-cons s at 0 (omega arith)

@@ -34,7 +34,8 @@ pub marked_as_told : MarkedAsTold
 marked_as_told = as_told (λ l. l.feoi) end_mark_by (λ p a l. refl) refl
 
 -- the byte that was accepted is held with END as marked
-held_out : (b : Bus) → Inv b → (q v : ℕ) → (m.call b (call_of.Of (place q) (act_of.DataOut v))).refusal ≡ ruling.Accepted
+held_out : (b : Bus) → Inv b → (q v : ℕ) → (m.call b (call_of.Of (place q) (act_of.DataOut v))).refusal
+    ≡ ruling.Accepted
     → (here (m.call b (call_of.Of (place q) (act_of.DataOut v))).bus q).held ≡ Full v (end_mark_at b q)
 held_out b I q v = cond-elim
     (λ (a : Answer). a.refusal ≡ ruling.Accepted → (here a.bus q).held ≡ Full v (end_mark_at b q))

@@ -24,8 +24,8 @@ auxiliary p v = call_of.Of (place p) (stands_for (Write 3 v))
 abbrev serial_poll : ℕ → ℕ → Call
 serial_poll p v = call_of.Of (place p) (stands_for (Write 5 v))
 
-abbrev data_out_lem : ℕ → ℕ → Call
-data_out_lem p v = call_of.Of (place p) (stands_for (Write 7 v))
+abbrev data_out : ℕ → ℕ → Call
+data_out p v = call_of.Of (place p) (stands_for (Write 7 v))
 
 -- The commands as a driver writes them, set where they have a switch.
 abbrev swrst : ℕ
@@ -94,7 +94,7 @@ A1 =
     ∷ (auxiliary 0 0x00, ok)
     ∷ (auxiliary 1 0x00, ok)
     ∷ addressed (
-    (data_out_lem 0 0x41, ok)
+    (data_out 0 0x41, ok)
     ∷ (step 0, moved)
     ∷ (step 1, moved)
     ∷ (step 0, says ev.Data 0x41 false)
@@ -105,7 +105,7 @@ A1 =
     ∷ (step 0, says ev.Ended 0x41 false)
     ∷ (data_in 1, says ev.Read 0x41 false)
     ∷ (auxiliary 0 feoi, ok)
-    ∷ (data_out_lem 0 0x42, ok)
+    ∷ (data_out 0 0x42, ok)
     ∷ (step 1, moved)
     ∷ (step 1, moved)
     ∷ (step 0, moved)
@@ -123,20 +123,20 @@ A2 =
     run (5 ∷ 6 ∷ []) (addressed (
     (auxiliary 0 feoi, ok)
     ∷ (write 0 0x41 0, ok)
-    ∷ (data_out_lem 0 0x42, refused ruling.Full)
-    ∷ crosses 0x41 false ((data_out_lem 0 0x42, ok) ∷ crosses 0x42 true ((data_out_lem 0 0x43, ok) ∷ crosses 0x43 false []))))
+    ∷ (data_out 0 0x42, refused ruling.Full)
+    ∷ crosses 0x41 false ((data_out 0 0x42, ok) ∷ crosses 0x42 true ((data_out 0 0x43, ok) ∷ crosses 0x43 false []))))
     ∷ run (5 ∷ 6 ∷ []) (addressed (
     (auxiliary 0 feoi, ok)
     ∷ (write 0 0x41 0, ok)
     ∷ (auxiliary 0 nbaf, loses 1 0)
     ∷ (auxiliary 0 feoi, ok)
-    ∷ (data_out_lem 0 0x42, ok)
-    ∷ crosses 0x42 true ((data_out_lem 0 0x43, ok) ∷ crosses 0x43 false [])))
+    ∷ (data_out 0 0x42, ok)
+    ∷ crosses 0x42 true ((data_out 0 0x43, ok) ∷ crosses 0x43 false [])))
     ∷ run (5 ∷ 6 ∷ []) (
     (auxiliary 0 feoi, ok)
     ∷ (auxiliary 0 sic, ok)
     ∷ (auxiliary 0 gts, ok)
-    ∷ addressed ((data_out_lem 0 0x41, ok) ∷ crosses 0x41 true []))
+    ∷ addressed ((data_out 0 0x41, ok) ∷ crosses 0x41 true []))
     ∷ run (5 ∷ 6 ∷ []) (
     (auxiliary 0 sic, ok)
     ∷ (auxiliary 0 feoi, ok)
@@ -149,7 +149,7 @@ A2 =
     ∷ (step 1, moved)
     ∷ (step 0, says ev.Ended 0x3f false)
     ∷ (auxiliary 0 gts, ok)
-    ∷ addressed ((data_out_lem 0 0x41, ok) ∷ crosses 0x41 true []))
+    ∷ addressed ((data_out 0 0x41, ok) ∷ crosses 0x41 true []))
     ∷ []
 
 -- Who takes it away: a command, which has no END, and a reset, the host's own as well as swrst.
@@ -158,18 +158,18 @@ A3 =
     run (5 ∷ 6 ∷ []) (
     (auxiliary 0 sic, ok)
     ∷ (auxiliary 0 feoi, ok)
-    ∷ (data_out_lem 0 0x14, ok)
+    ∷ (data_out 0 0x14, ok)
     ∷ commands ev.Clear 0x14 (
     (auxiliary 0 gts, ok)
-    ∷ addressed ((data_out_lem 0 0x41, ok) ∷ crosses 0x41 false [])))
+    ∷ addressed ((data_out 0 0x41, ok) ∷ crosses 0x41 false [])))
     ∷ run (5 ∷ 6 ∷ []) (
     (auxiliary 0 feoi, ok)
     ∷ (auxiliary 0 swrst, ok)
-    ∷ addressed ((data_out_lem 0 0x41, ok) ∷ crosses 0x41 false []))
+    ∷ addressed ((data_out 0 0x41, ok) ∷ crosses 0x41 false []))
     ∷ run (5 ∷ 6 ∷ []) (
     (auxiliary 0 feoi, ok)
     ∷ (call_of.Of (place 0) act_of.Reset, ok)
-    ∷ addressed ((data_out_lem 0 0x41, ok) ∷ crosses 0x41 false []))
+    ∷ addressed ((data_out 0 0x41, ok) ∷ crosses 0x41 false []))
     ∷ []
 
 -- A serial poll: party 1 asks for service by rsv2, which bus status shows; party 0 clears the interface, sends SPE and
@@ -181,9 +181,9 @@ A4 =
     ∷ (auxiliary 1 rsv2, ok)
     ∷ (bus_status 0, says ev.Lines 0x04 false)
     ∷ (auxiliary 0 sic, ok)
-    ∷ (data_out_lem 0 0x18, ok)
+    ∷ (data_out 0 0x18, ok)
     ∷ commands ev.Heard 0x18 (
-    (data_out_lem 0 0x45, ok)
+    (data_out 0 0x45, ok)
     ∷ commands ev.Heard 0x45 (
     (auxiliary 0 gts, ok)
     ∷ (auxiliary 0 lon, ok)
@@ -203,7 +203,7 @@ A4 =
 abbrev pub A5 : List Run
 A5 =
     run (5 ∷ 6 ∷ []) (addressed (
-    (data_out_lem 0 0x41, ok)
+    (data_out 0 0x41, ok)
     ∷ (step 0, moved)
     ∷ (step 1, moved)
     ∷ (step 0, says ev.Data 0x41 false)
@@ -211,7 +211,7 @@ A5 =
     ∷ (bus_status 0, says ev.Lines 0x20 false)
     ∷ []))
     ∷ run (5 ∷ 6 ∷ []) (addressed (
-    (data_out_lem 0 0x41, ok)
+    (data_out 0 0x41, ok)
     ∷ (step 0, moved)
     ∷ (step 1, moved)
     ∷ (step 0, says ev.Data 0x41 false)

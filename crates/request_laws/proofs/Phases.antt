@@ -71,7 +71,8 @@ module _ (b : Bus) (cs : List Call) (p : ℕ)
         was : Service
         was = (request_at b cs p k).service
 
-    bit_next : (TouchesAt b cs p k → ⊥) → ((request_at b cs p (suc k)).rsv2 ≡ (request_at b cs p k).rsv2) ⊎ StatAt b cs p k
+    bit_next : (TouchesAt b cs p k → ⊥) → ((request_at b cs p (suc k)).rsv2 ≡ (request_at b cs p k).rsv2)
+        ⊎ StatAt b cs p k
     bit_next u = go ((G k (omega arith)).bit p here-is)
       where
         go : ((here (answer_at b cs k).bus p).request.rsv2 ≡ (request_at b cs p k).rsv2)

@@ -298,7 +298,8 @@ module _ (b : Bus) (I : Inv b) (c : Call) (ok : is_accepted (m.refusal (lines b)
       ap (λ (q : Request). q.service) n ∙ rw (same, ap (λ (q : Request). q.live) n, ap (λ (q : Request). q.rsv2) n)
       refl
 
-  pub next_bit : (j : ℕ) → j < b.count → ((here a.bus j).request.rsv2 ≡ (here b j).request.rsv2) ⊎ Turns c e.said.event j
+  pub next_bit : (j : ℕ) → j < b.count → ((here a.bus j).request.rsv2 ≡ (here b j).request.rsv2)
+      ⊎ Turns c e.said.event j
   next_bit j l = go (at_place (λ j q. (q.rsv2 ≡ (here b j).request.rsv2) ⊎ Turns c e.said.event j)
       (asked_bit c e.said.event (here b i).request) (λ j. inl refl) j)
     where

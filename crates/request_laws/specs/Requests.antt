@@ -100,7 +100,8 @@ module _ (b : Bus) (cs : List Call) (p : ℕ) where
     pub waits : (r k : ℕ) → AsksAt r → r < k → k < length cs → NoneBetween r k → Left r k → Waits r k
     -- "Putting a status byte in APRS clears rsv2 in that same step." One put in NPRS clears nothing: a request that was
     -- switched on during that poll outlasts it.
-    pub clears : (k : ℕ) → StatAt k → (request_at k).service ≡ Aprs → (here (answer_at b cs k).bus p).request.rsv2 ≡ false
+    pub clears : (k : ℕ) → StatAt k → (request_at k).service ≡ Aprs
+        → (here (answer_at b cs k).bus p).request.rsv2 ≡ false
     pub spares : (k : ℕ) → StatAt k → (request_at k).service ≡ Nprs
         → (here (answer_at b cs k).bus p).request.rsv2 ≡ (request_at k).rsv2
     -- Every status byte is put in a poll, so that the first and the later ones are all there are.

@@ -46,7 +46,8 @@ pub record Addressed (atn : Bool) (w : ℕ → Role) : Type 0 where
   -- second talker
   pub led : (i j : ℕ) → marked (w i) ≡ true → (w j).talk ≡ true → marked (w j) ≡ true
   -- who waits for a talk secondary has the primary last sent, so that a secondary names one of them
-  pub near : (i j : ℕ) → marked (w i) ≡ true → marked (w j) ≡ true → primary_of (name_of (w i)) ≡ primary_of (name_of (w j))
+  pub near : (i j : ℕ) → marked (w i) ≡ true → marked (w j) ≡ true
+      → primary_of (name_of (w i)) ≡ primary_of (name_of (w j))
   -- with ATN false nobody waits: talk-only on makes no second talker later
   pub off : atn ≡ false → (j : ℕ) → marked (w j) ≡ false
 
@@ -221,14 +222,16 @@ module _ (atn : Bool) (on : atn ≡ true) (n : ℕ) (w u : ℕ → Role) (D : Ap
     by_talk : (j : ℕ) → (u j).talk ≡ true → (j < n) × (u j ≡ role_heard m (w j)) × ((role_heard m (w j)).talk ≡ true)
     by_talk j e = let h = H j (or_left (u j).talk (marked (u j)) e) in (h.0, h.1, rw h.1 at e)
 
-    by_mark : (j : ℕ) → marked (u j) ≡ true → (j < n) × (u j ≡ role_heard m (w j)) × (marked (role_heard m (w j)) ≡ true)
+    by_mark : (j : ℕ) → marked (u j) ≡ true → (j < n) × (u j ≡ role_heard m (w j))
+        × (marked (role_heard m (w j)) ≡ true)
     by_mark j e = let h = H j (or_right (u j).talk e) in (h.0, h.1, rw h.1 at e)
 
     -- who is marked has the name that it had
     named : (j : ℕ) → marked (u j) ≡ true → name_of (u j) ≡ name_of (w j)
     named j e = ap name_of (by_mark j e).1 ∙ hear_name m (w j)
 
-    close : (i j : ℕ) → marked (u i) ≡ true → marked (u j) ≡ true → primary_of (name_of (w i)) ≡ primary_of (name_of (w j))
+    close : (i j : ℕ) → marked (u i) ≡ true → marked (u j) ≡ true
+        → primary_of (name_of (w i)) ≡ primary_of (name_of (w j))
         → primary_of (name_of (u i)) ≡ primary_of (name_of (u j))
     close i j e f p = ap primary_of (named i e) ∙ p ∙ sym (ap primary_of (named j f))
 
@@ -251,7 +254,8 @@ module _ (atn : Bool) (on : atn ≡ true) (n : ℕ) (w u : ℕ → Role) (D : Ap
     waits : (i : ℕ) → marked (u i) ≡ true → owns a (w i) ≡ true
     waits i e = talk_mark (name_of (w i)).secondary (owns a (w i)) (by_mark (Talk a) H i e).2
 
-    same : (i j : ℕ) → owns a (w i) ≡ true → owns a (w j) ≡ true → primary_of (name_of (w i)) ≡ primary_of (name_of (w j))
+    same : (i j : ℕ) → owns a (w i) ≡ true → owns a (w j) ≡ true
+        → primary_of (name_of (w i)) ≡ primary_of (name_of (w j))
     same i j e f = sym (eqb-true a.0 (primary_of (name_of (w i))) e) ∙ eqb-true a.0 (primary_of (name_of (w j))) f
 
     -- two of that primary are one party, or both have secondaries
@@ -272,13 +276,15 @@ module _ (atn : Bool) (on : atn ≡ true) (n : ℕ) (w u : ℕ → Role) (D : Ap
     }
       where
         one : (i j : ℕ) → (u i).talk ≡ true → (u j).talk ≡ true
-            → (i ≡ j) ⊎ ((is_extended (name_of (w i)).secondary ≡ true) × (is_extended (name_of (w j)).secondary ≡ true))
+            → (i ≡ j) ⊎ ((is_extended (name_of (w i)).secondary ≡ true)
+            × (is_extended (name_of (w j)).secondary ≡ true))
             → i ≡ j
         one i j e f (inl z) = z
         one i j e f (inr z) = A.one i j ((talks i e).1 z.0) ((talks j f).1 z.1)
 
         led : (i j : ℕ) → marked (u i) ≡ true → (u j).talk ≡ true
-            → (i ≡ j) ⊎ ((is_extended (name_of (w i)).secondary ≡ true) × (is_extended (name_of (w j)).secondary ≡ true))
+            → (i ≡ j) ⊎ ((is_extended (name_of (w i)).secondary ≡ true)
+            × (is_extended (name_of (w j)).secondary ≡ true))
             → marked (u j) ≡ true
         led i j e f (inl z) = rw z at e
         led i j e f (inr z) = rw (by_talk (Talk a) H j f).1

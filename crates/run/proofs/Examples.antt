@@ -10,7 +10,8 @@ use Rattle.run.specs.Run.{answer_to, text_from, text_of}
 use Rattle.run.specs.Examples.{Holds}
 
 pub examples : Holds
-unfolding meaning_of seven_bits named codes decimal_of number_text word_text byte_text head_text event_text counts_text line_of
+unfolding meaning_of seven_bits named codes decimal_of number_text word_text byte_text head_text event_text
+    counts_text line_of
     order_of count_up build_from obey answer_to records text_from text_of
 examples = record {
   document = refl;

@@ -40,12 +40,14 @@ module _ {s out₀ out : List ℕ} {b : Bus} {at n place : ℕ} (g : Going s out
   pub fits : at < length s → place + 34 ≤ length out
   fits h = omega (arith, g.room)
 
-  text_turn : at < length s → text_from b n (records (drop at s)) ≡ line_of n (answer_to b (record_at s at)) ++ text_from
+  text_turn : at < length s → text_from b n (records (drop at s)) ≡ line_of n (answer_to b (record_at s at))
+      ++ text_from
       (answer_to b (record_at s at)).bus (n + 1) (records (drop (after_at s at) s))
   unfolding text_from
   text_turn h = ap (text_from b n) (turn s at h).split
 
-  pub again : {out' : List ℕ} {b' : Bus} {at' place' : ℕ} (a : Answer) → at < length s → a ≡ answer_to b (record_at s at)
+  pub again : {out' : List ℕ} {b' : Bus} {at' place' : ℕ} (a : Answer) → at < length s
+      → a ≡ answer_to b (record_at s at)
       → Wrote out place (line_of n a) out' place' → b' ≡ a.bus → at' ≡ after_at s at
       → Going s out₀ out' b' at' (n + 1) place'
   again {out'} {b'} {at'} {place'} a h e w f k =

@@ -27,7 +27,8 @@ text_from b n (r ∷ rs) = line_of n (answer_to b r) ++ text_from (answer_to b r
 -- "starts from the bus of no parties and prints per record: number from 1 ..; over 65,532 bytes gives only record 0
 -- with 10"
 unfoldable pub text_of : List ℕ → List ℕ
-text_of s = cond (ltb 65532 (length s)) (line_of 0 (refuse ruling.Record no_parties)) (text_from no_parties 1 (records s))
+text_of s = cond (ltb 65532 (length s)) (line_of 0 (refuse ruling.Record no_parties))
+    (text_from no_parties 1 (records s))
 
 -- The most lines that a text can have: 1 if the script is over length, else one for each record and part of one.
 unfoldable pub line_count : List ℕ → ℕ

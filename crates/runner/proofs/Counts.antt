@@ -28,7 +28,8 @@ counted_at counts [] k l = omega arith
 counted_at counts (x ∷ xs) k l = counted_at (set counts x (get_or counts x 0 + 1)) xs k (rw length-set l)
     ∙ go (eqb k x) refl
   where
-    go : (u : Bool) → eqb k x ≡ u → get_or (set counts x (get_or counts x 0 + 1)) k 0 + occurs k xs ≡ get_or counts k 0 + (one
+    go : (u : Bool) → eqb k x ≡ u → get_or (set counts x (get_or counts x 0 + 1)) k 0 + occurs k xs
+        ≡ get_or counts k 0 + (one
         u + occurs k xs)
     go true e = let h = eqb-true k x e in rw h (rw (get_or-set_same counts x (get_or counts x 0 + 1) 0 (rw h at l))
         (omega arith))

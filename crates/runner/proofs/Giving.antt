@@ -47,7 +47,8 @@ some_within count ne = cond-elim (λ (n : ℕ). 0 < n) (ltb count 15) (λ _. pos
     positive zero ne = absurd (ne refl)
     positive (suc n) ne = omega arith
 
-pub start : (b : Bus) (n T : ℕ) (keys : List ℕ) → 0 < n → n ≤ 15 → take n keys ≡ map (key_at b) (in_order (by_address b) n)
+pub start : (b : Bus) (n T : ℕ) (keys : List ℕ) → 0 < n → n ≤ 15
+    → take n keys ≡ map (key_at b) (in_order (by_address b) n)
     → Going b n T keys (replicate 15 0) b 0 0
 start b n T keys p l e = record {
   some = p;
@@ -72,8 +73,10 @@ module _ {b : Bus} {n T : ℕ} {keys counts : List ℕ} {after : Bus} {i t : ℕ
   pub had : get_or counts (place_of_key (get_or keys i 0)) 0 ≤ t
   had = G.small (place_of_key (get_or keys i 0))
 
-  pub again : t < T → {a : Answer} → a ≡ m.call after (step_of (place_of_key (get_or keys i 0))) → {j : ℕ} → j ≡ (i + 1) % n
-      → Going b n T keys (set counts (place_of_key (get_or keys i 0)) (get_or counts (place_of_key (get_or keys i 0)) 0 + 1))
+  pub again : t < T → {a : Answer} → a ≡ m.call after (step_of (place_of_key (get_or keys i 0))) → {j : ℕ}
+      → j ≡ (i + 1) % n
+      → Going b n T keys (set counts (place_of_key (get_or keys i 0)) (get_or counts (place_of_key (get_or keys i 0)) 0
+      + 1))
       a.bus j (t + 1)
   again l {a} e {j} f = record {
     some = G.some;

@@ -114,7 +114,8 @@ module _ (tie : TieOrder) (ws : List ℕ) (n : ℕ) (O : Orders tie n) where
           below y h ne = more y (suc m) (λ f. omega arith) ne
 
   -- who goes before all others is the longest waiting
-  pub chosen : (x : ℕ) → x < n → ((y : ℕ) → y < n → (y ≡ x → ⊥) → goes_before tie ws x y ≡ true) → longest_of tie ws n ≡ x
+  pub chosen : (x : ℕ) → x < n → ((y : ℕ) → y < n → (y ≡ x → ⊥) → goes_before tie ws x y ≡ true)
+      → longest_of tie ws n ≡ x
   chosen x l h = let B = best n (omega arith) (omega arith) in
       test (eqb x (longest_of tie ws n)) (λ e. sym (eqb-true x (longest_of tie ws n) e))
       (λ e. let f = B.over x l (eqb-false x (longest_of tie ws n) e) in

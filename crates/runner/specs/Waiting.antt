@@ -2,7 +2,8 @@
 -- a tie order to settle: that by address is in Ties.antt. A wait is how many turns others have had since a party's own
 -- last one, or since the run began: `ws` has one for each place.
 -- Assumes nothing.
-use Rattle.std.specs.Prelude.{ℕ, zero, suc, ◌≤◌, ◌<◌, ◌%◌, ◌≡◌, Bool, true, cond, ◌&&◌, ◌||◌, false, List, [], ◌∷◌, map, ltb, eqb, length, get_or, set, replicate}
+use Rattle.std.specs.Prelude.{ℕ, zero, suc, ◌≤◌, ◌<◌, ◌%◌, ◌≡◌, Bool, true, cond, ◌&&◌, ◌||◌, false, List, [], ◌∷◌}
+use Rattle.std.specs.Prelude.{map, ltb, eqb, length, get_or, set, replicate}
 
 -- The tie order: does the first of two places come before the second where both have waited equally long?
 abbrev pub TieOrder : Type 0

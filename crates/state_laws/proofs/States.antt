@@ -16,7 +16,8 @@ use Rattle.bus.specs.Types.{Place, Party, Slot, Empty, Full, Kind, Command, Data
 use Rattle.bus.specs.Record.{here, lines}
 use Rattle.bus.proofs.Invariant.{Inv, atn_of, sent_by, of_data, in_acrs, is_acrs, is_strs, look}
 use Rattle.bus.proofs.Summary.{none_ready}
-use Rattle.bus.proofs.Reached.{sender_in_strs, sender_is_source, status_if_polled_lem, polled_if_status_lem, end_on_data_lem}
+use Rattle.bus.proofs.Reached.{sender_in_strs, sender_is_source, status_if_polled_lem, polled_if_status_lem}
+use Rattle.bus.proofs.Reached.{end_on_data_lem}
 use Rattle.bus.proofs.Reached.{source_not_sids, other_in_sids, one_source_lem, never_both, settled_already}
 use Rattle.bus.proofs.Reached.{listener_takes_part, other_takes_no_part, ready_has_room}
 use Rattle.runner.proofs.Led.{led_inv}

@@ -274,7 +274,8 @@ module _ (b : Bus) (I : Inv b) (p v : ℕ) (e : Bool) (k : Kind) (O : OnOffer b 
   call_stays (call_of.Of i act_of.NoRegister) = judged i act_of.NoRegister (λ h. no (cc))
   call_stays (call_of.Of i (act_of.OwnStatus on)) = judged i (act_of.OwnStatus on) (λ h. no (cc))
   call_stays (call_of.Of i act_of.ParallelPoll) = judged i act_of.ParallelPoll (λ h. no (cc))
-  call_stays call_of.Lines = settle_stays 0 (effect_of (m.view_at (place_of call_of.Lines) (lines b) b) call_of.Lines) refl
+  call_stays call_of.Lines = settle_stays 0 (effect_of (m.view_at (place_of call_of.Lines) (lines b) b) call_of.Lines)
+      refl
   call_stays call_of.Drivers = settle_stays 0
       (effect_of (m.view_at (place_of call_of.Drivers) (lines b) b) call_of.Drivers) refl
 

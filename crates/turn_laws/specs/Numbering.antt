@@ -42,7 +42,8 @@ OnlyAsBefore = (b : Bus) → b.count ≤ 15 → turns_of (by_address b) b b.coun
 -- Since no call changes a name, such a rack has in every list the calls and the bus that it had.
 abbrev pub AlwaysAsBefore : Type 0
 AlwaysAsBefore = (b : Bus) → Numbered b → (xs : List Item)
-    → (expanded by_address b xs ≡ expanded (λ c. by_place) b xs) × (led_by by_address b xs ≡ led_by (λ c. by_place) b xs)
+    → (expanded by_address b xs ≡ expanded (λ c. by_place) b xs)
+    × (led_by by_address b xs ≡ led_by (λ c. by_place) b xs)
 
 -- "Sites number their parties as they please and compare runs by address."
 

@@ -8,4 +8,5 @@ pub returns : goal.returns
 returns c =
     let l = names c.args.addresses.now c.args.secondaries.now in
     let z = names_length c.args.addresses.now c.args.secondaries.now in
-    scan_done any_over30 (λ x xs. is_over30 x) refl (λ x xs. refl) l c.loop-i.i c.loop-i.found (any_over30 l) c.loop-i.invariant (omega arith)
+    scan_done any_over30 (λ x xs. is_over30 x) refl (λ x xs. refl) l c.loop-i.i c.loop-i.found (any_over30 l)
+    c.loop-i.invariant (omega arith)

@@ -7,4 +7,5 @@ pub returns : goal.returns
 returns c =
     let l = names c.args.addresses.now c.args.secondaries.now in
     let z = names_length c.args.addresses.now c.args.secondaries.now in
-    scan_done two_clash clashes_with refl (λ x xs. refl) l c.loop-i.i c.loop-i.found (two_clash l) c.loop-i.invariant (omega arith)
+    scan_done two_clash clashes_with refl (λ x xs. refl) l c.loop-i.i c.loop-i.found (two_clash l) c.loop-i.invariant
+    (omega arith)

@@ -9,7 +9,8 @@ use Rattle.bus.proofs.Bus.build_extended.Goals as goal
 pub placed-requires : goal.placed-requires
 placed-requires c =
     let a = c.args in
-    let few = fits (names a.addresses.now a.secondaries.now) a.system (sym c.bad_build.ensures ∙ c.if-bad_build.false) in
+    let few = fits (names a.addresses.now a.secondaries.now) a.system
+    (sym c.bad_build.ensures ∙ c.if-bad_build.false) in
     let z = names_length a.addresses.now a.secondaries.now in
     omega arith
 

@@ -17,8 +17,8 @@ returns-then-is_accepted c =
     let a = c.args in
     let z : length a.self.parties ≡ 15 = search (rules, length_of_map) in
     let heard : c.told-s.result ≡ scan_of c.slot-at.result a.self.count a.self.parties (has_end a.self.standing)
-        = c.told-s.ensures ∙ rw (c.has_end.ensures, c.sweep_of.ensures)
-        (told_scan a.self.count a.self.parties z c.slot-at.result (has_end a.self.standing)) in
+    = c.told-s.ensures ∙ rw (c.has_end.ensures, c.sweep_of.ensures)
+    (told_scan a.self.count a.self.parties z c.slot-at.result (has_end a.self.standing)) in
     let ruled : c.judge-r.result ≡ refusal (lines a.self) a.self a.c = rw (
       c.judge-r.ensures,
       c.is_inside-inside.ensures,
@@ -43,8 +43,8 @@ returns-else-is_accepted c =
     let a = c.args in
     let z : length a.self.parties ≡ 15 = search (rules, length_of_map) in
     let heard : c.told-s.result ≡ scan_of c.slot-at.result a.self.count a.self.parties (has_end a.self.standing)
-        = c.told-s.ensures ∙ rw (c.has_end.ensures, c.sweep_of.ensures)
-        (told_scan a.self.count a.self.parties z c.slot-at.result (has_end a.self.standing)) in
+    = c.told-s.ensures ∙ rw (c.has_end.ensures, c.sweep_of.ensures)
+    (told_scan a.self.count a.self.parties z c.slot-at.result (has_end a.self.standing)) in
     let ruled : c.judge-r.result ≡ refusal (lines a.self) a.self a.c = rw (
       c.judge-r.ensures,
       c.is_inside-inside.ensures,
