@@ -115,11 +115,21 @@ impl<'a> Comparison<'a> {
         }
     }
 
+    /// Without steps that are tried in two orders on copies.
+    pub fn of_calls_alone(subject: &'a mut dyn Subject) -> Comparison<'a> {
+        let mut comparison = Comparison::new(subject);
+        comparison.tally.calls_alone = true;
+        comparison
+    }
+
     /// Compares one list, and shortens it if it shows a difference.
     pub fn list(&mut self, list: &[u8]) -> Result<(), Finding> {
         match compare(self.subject, list, &mut self.tally) {
             Ok(()) => Ok(()),
-            Err(first) => Err(shrink::shorten(self.subject, list, first)),
+            Err(first) => {
+                let calls_alone = self.tally.calls_alone;
+                Err(shrink::shorten(self.subject, list, first, calls_alone))
+            }
         }
     }
 }

@@ -225,6 +225,9 @@ impl Walk<'_> {
 
     /// Tries steps of parties that are no source in two orders, on copies.
     fn try_orders(&mut self) -> Done {
+        if self.tally.calls_alone {
+            return Ok(());
+        }
         let Some(orders) = either_order::draw(&self.bus, &mut self.random) else {
             return Ok(());
         };

@@ -91,12 +91,17 @@ struct Shrinker<'a> {
     subject: &'a mut dyn Subject,
     pieces: Vec<Vec<u8>>,
     difference: Difference,
+    calls_alone: bool,
 }
 
 impl Shrinker<'_> {
     /// Keeps the pieces if they still show a difference, of whatever sort.
     fn try_pieces(&mut self, pieces: Vec<Vec<u8>>) -> bool {
-        match compare(self.subject, &pieces.concat(), &mut Tally::default()) {
+        let mut tally = Tally {
+            calls_alone: self.calls_alone,
+            ..Tally::default()
+        };
+        match compare(self.subject, &pieces.concat(), &mut tally) {
             Ok(()) => false,
             Err(difference) => {
                 self.pieces = pieces;
@@ -202,12 +207,18 @@ impl Shrinker<'_> {
 }
 
 /// Shortens a list whose comparison gave `first`.
-pub fn shorten(subject: &mut dyn Subject, list: &[u8], first: Difference) -> Finding {
+pub fn shorten(
+    subject: &mut dyn Subject,
+    list: &[u8],
+    first: Difference,
+    calls_alone: bool,
+) -> Finding {
     let pieces = list.chunks(RECORD).map(<[u8]>::to_vec).collect();
     let mut shrinker = Shrinker {
         subject,
         pieces,
         difference: first,
+        calls_alone,
     };
     shrinker.run();
     Finding {

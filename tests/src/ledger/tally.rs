@@ -47,6 +47,8 @@ pub struct Tally {
     pub end_marks: EndMarkCases,
     pub polls: PollCases,
     pub orders: OrderCases,
+    /// Steps are not tried in two orders.
+    pub calls_alone: bool,
 }
 
 /// Fewer starts would say little of the bound, on racks of any sort.

@@ -14,14 +14,18 @@ use meskvorn_tests::wrong::Wrong;
 
 /// Guided lists until so many records were compared, then the tables.
 pub fn first_finding(subject: &mut dyn Subject, records: u64) -> Option<Finding> {
-    let mut comparison = Comparison::new(subject);
+    first_by(&mut Comparison::new(subject), records)
+}
+
+/// The same by this comparison.
+pub fn first_by(comparison: &mut Comparison, records: u64) -> Option<Finding> {
     let mut guided = Guided::new(3);
     while comparison.tally.records < records {
         if let Err(finding) = comparison.list(guided.list()) {
             return Some(finding);
         }
     }
-    tables::run(&mut comparison, 2).err()
+    tables::run(comparison, 2).err()
 }
 
 /// What the ledger says of the machine with the fault of that name.

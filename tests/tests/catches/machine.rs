@@ -1,7 +1,6 @@
 //! The ledger and the comparison must catch what a machine gets wrong about document 01's calls.
 
-use crate::findings::{first_finding, ledger_says};
-use meskvorn_tests::compare::either_order::What;
+use crate::findings::{first_by, first_finding, ledger_says};
 use meskvorn_tests::compare::{whole_run, Comparison, Difference};
 use meskvorn_tests::lists::guided::Guided;
 use meskvorn_tests::lists::hex::records;
@@ -108,16 +107,14 @@ fn systematic_part_catches_every_fault() {
 #[test]
 fn the_joiner_is_shown_by_a_short_script() {
     let mut machine = Wrong::named("joiner in ANRS under DAV");
-    let finding = first_finding(&mut machine, 300_000).expect("a difference");
-    let mut comparison = Comparison::new(&mut machine);
+    let mut comparison = Comparison::of_calls_alone(&mut machine);
+    let finding = first_by(&mut comparison, 300_000).expect("a difference");
     let finding = whole_run::shortest(&mut comparison, 4, finding);
     // Build, talker, listener, write, two steps, put, joining, and the joiner's step or the drivers;
-    // where the listener itself joins again it leaves before. The step may be one on a copy.
+    // where the listener itself joins again it leaves before.
     assert!(finding.list.len() <= 10 * RECORD, "{:?}", finding.list);
-    let shown = match &finding.difference {
-        Difference::Answer { .. } | Difference::Drivers { .. } => true,
-        Difference::Orders { unlike, .. } => matches!(unlike.what, What::AsModel { .. }),
-        _ => false,
-    };
-    assert!(shown, "{}", finding.difference.words());
+    assert!(matches!(
+        finding.difference,
+        Difference::Answer { .. } | Difference::Drivers { .. }
+    ));
 }

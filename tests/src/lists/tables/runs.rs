@@ -99,3 +99,19 @@ pub fn run(comparison: &mut Comparison, seed: u64) -> Done {
     every_order(comparison, &mut guided)?;
     every_number(comparison, &mut guided)
 }
+
+#[cfg(test)]
+mod tests {
+    use super::*;
+
+    #[test]
+    fn all_orders_of_four_names() {
+        for names in SORTS {
+            let mut all = all_orders(&names);
+            assert_eq!(all.len(), 24);
+            all.sort_by_key(|order| order.iter().map(|n| n.by_address()).collect::<Vec<_>>());
+            all.dedup();
+            assert_eq!(all.len(), 24);
+        }
+    }
+}
