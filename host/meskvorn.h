@@ -1,4 +1,4 @@
-/* The GPIB bus of document 01 for C and C++ programs. Link libmeskvorn.a, which `rt staticlib meskvorn` writes to
+/* The GPIB bus of document 01 for C and C++ programs. Link libmeskvorn.a, which `host/build` writes to
  * target/staticlib.
  *
  * meskvorn_call, meskvorn_build, meskvorn_build_extended, meskvorn_read_register, meskvorn_write_register,

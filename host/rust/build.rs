@@ -1,4 +1,4 @@
-//! Links the proved library, which `rt staticlib meskvorn` writes.
+//! Links the proved library, which `host/build` writes.
 
 use std::path::Path;
 
@@ -8,7 +8,7 @@ fn main() {
     println!("cargo:rerun-if-changed={}", archive.display());
     assert!(
         archive.exists(),
-        "no {}: run `rt staticlib meskvorn` first",
+        "no {}: run `host/build` first",
         archive.display()
     );
     println!("cargo:rustc-link-search=native={}", folder.display());

@@ -1,5 +1,5 @@
 //! The GPIB bus of document 01 for Rust programs. The calls run in the proved library, which
-//! `rt staticlib meskvorn` writes.
+//! `host/build` writes.
 
 mod answer;
 mod drivers;
