@@ -1,7 +1,7 @@
 #!/usr/bin/env python3
 """Spells the repository's own definitions and lemmas as today's Rattle does: words in snake case.
 
-usage: python3 tools/respell.py        at the top, once, right after /opt/rattle/port/port.py
+usage: python3 tools/respell.py        at the top, once, right after the kit's port.py
 
 It turns names that a file of specs/ or proofs/ declares, wherever they are cited: in specs/, proofs/, src/ (clauses and
 comments), must-fail/, tests/machines, README.md and docs/. Names of src/ stay, and so do names of the kit's library.
@@ -21,12 +21,13 @@ BY_HAND = {
     "getD-right": "get_or_right",
     "getD-suc": "get_or_suc",
     "byItself": "left_by_own_turns",
+    "notASource": "not_a_source",
     "line_on": "line_on_lem",
     "one_source": "one_source",
 } | {n: n.replace("-", "_") + "_lem" for n in (
-    "answer-of data-out hear-event in-sids is-active is-poll is-stat longest-waiting marked-end not-both not-put not-twice "
-    "of-status one-atn one-dav one-source pass-to polled-if-status role-heard source-step status-if-polled turns-of "
-    "end-on-data").split()}
+    "answer-of data-out hear-event in-sids is-active is-poll is-stat longest-waiting marked-end not-both not-put "
+    "not-twice of-status one-atn one-dav one-source pass-to polled-if-status role-heard source-step status-if-polled "
+    "turns-of end-on-data").split()}
 
 
 def snake(n):
@@ -146,7 +147,8 @@ def main():
     for p in plain:
         text = read(p)
         words = {w: older(w) for w in WORD.findall(text) if older(w)}
-        write(p, "\n".join(comment_turned(l, words) if l.startswith("#") else turned(l, words, ()) for l in text.split("\n")))
+        lines = [comment_turned(l, words) if l.startswith("#") else turned(l, words, ()) for l in text.split("\n")]
+        write(p, "\n".join(lines))
     prose = ["README.md", "tests/README.md", "tests/machines/README.md"]
     for folder, _, fs in sorted(os.walk("docs")):
         prose += [os.path.join(folder, f) for f in sorted(fs) if f.endswith(".md")]

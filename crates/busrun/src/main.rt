@@ -17,11 +17,11 @@ const READ: usize = 65533;
 
 // The text of an input of any length, of which the n bytes that were read are the front as far as the buffer goes.
 fn run_front(read: &[u8], n: usize, out: &mut [u8; ROOM]) -> usize
-    requires in_bounds { 65532 < length read.now }
-    requires prefix_len { IsPrefixLen n read.now }
-    ensures by_index { (input : List ℕ) → take n read.now ≡ take (length read.now) input
+    requires room { 65532 < length read.now }
+    requires front { IsPrefixLen n read.now }
+    ensures printed { (input : List ℕ) → take n read.now ≡ take (length read.now) input
         → Printed input out.old out.new result }
-    ensures prefix_len_2 { IsPrefixLen result out.new }
+    ensures within { IsPrefixLen result out.new }
 {
     run::run_whole(&read[..n], out)
 }

@@ -45,6 +45,6 @@ examples = record {
   led = led_to;
   talker = refl;
   loggers = none;
-  not_aSource = not_a_source;
+  not_a_source = not_a_source;
   not_twice = not_twice_lem;
 }

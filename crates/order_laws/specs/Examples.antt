@@ -108,5 +108,5 @@ pub record OrderExamples : Type 0 where
   pub talker : is_source (lines waiting).atn (here waiting 0) ≡ true
   pub loggers : NoSources waiting (1 ∷ 2 ∷ 2 ∷ [])
   -- No premise is too many: a logger and the talker can't change places, and a logger's turn is not two of them.
-  pub not_aSource : Swapped waiting 2 0 → ⊥
+  pub not_a_source : Swapped waiting 2 0 → ⊥
   pub not_twice : SameDumps waiting (steps (1 ∷ 2 ∷ [])) (steps (2 ∷ 1 ∷ 2 ∷ [])) → ⊥

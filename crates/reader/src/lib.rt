@@ -1,6 +1,5 @@
-// The bus script: a reader that keeps the script and its place in it hands out records. A struct with a lent slice
-// inside is not covered by the proofs that come by themselves, so what is written over it is thin and proved by hand:
-// start, take and take_at. The work is in record_at and after_at.
+// The bus script: a reader that keeps the script and its place in it hands out records. What is written over the struct
+// is thin, start, take and take_at; the work is in record_at and after_at.
 #![tactic(auto)]
 
 ghost use Rattle.std.specs.Prelude.{◌≡◌, length};

@@ -9,6 +9,6 @@ of_same : (s t before after : List ℕ) (r : ℕ) → text_of s ≡ text_of t �
 of_same s t before after r e w =
     subst (λ (l : List ℕ). (r ≡ length l) × (after ≡ l ++ drop r before)) e w
 
-pub returns-clause-by_index : goal.returns-clause-by_index
-returns-clause-by_index c = λ input h. of_same _ input _ _ _ (ap text_of h ∙ front _ input c.requires.in_bounds)
+pub returns-clause-printed : goal.returns-clause-printed
+returns-clause-printed c = λ input h. of_same _ input _ _ _ (ap text_of h ∙ front _ input c.requires.room)
     c.run_whole.ensures
