@@ -7,11 +7,11 @@ ghost use Rattle.message.specs.Meaning.{code_of, decode, meaning_of};
 pub mod table;
 
 // A primary address. Document 01: "a party's place and its address are separate kinds of number".
-#[derive(Clone, Copy)]
+#[derive(Clone, Copy, PartialEq, Eq)]
 pub struct Address(pub u8);
 
 // A secondary address, which says which of the parties at one primary is meant.
-#[derive(Clone, Copy)]
+#[derive(Clone, Copy, PartialEq, Eq)]
 pub struct SecondaryAddress(pub u8);
 
 // What a command byte means to who hears it.
@@ -41,11 +41,11 @@ pub enum Meaning {
 pub fn code_of(byte: u8) -> u8
     ensures { result ≡ code_of (meaning_of byte) }
 {
-    let i = byte as usize;
-    table::CODES[i]
+    table::CODES[byte as usize]
 }
 
-// What a byte with this code means, if its low five bits are the number of an address.
+// What a byte with this code means, if its low five bits are the number of an address. The one place where the table's
+// numbers become cases.
 #[tactic(auto, unfolding(crate::specs::Meaning::decode))]
 fn decode(code: u8, number: u8) -> Meaning
     ensures { result ≡ decode code number }

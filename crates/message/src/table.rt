@@ -1,6 +1,7 @@
 // Document 01's table of 256 meanings: entry b is the code of what byte b means (specs/Meaning.antt, `code_of`).
 // 0 a primary command without a meaning, 1 listen address, 2 UNL, 3 talk address, 4 UNT, 5 SDC, 6 GET, 7 TCT, 8 DCL,
-// 9 SPE, 10 SPD, 11 secondary address, 12 neither primary nor secondary, 13 PPC, 14 PPU.
+// 9 SPE, 10 SPD, 11 secondary address, 12 neither primary nor secondary, 13 PPC, 14 PPU. Numbers, since document 01
+// names this form, a constant table of message codes.
 pub const CODES: [u8; 256] = [
     0, 0, 0, 0, 5, // 04 SDC
     13, // 05 PPC

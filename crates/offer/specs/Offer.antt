@@ -1,16 +1,15 @@
 -- A byte on offer (document 01, "Source step").
 -- Assumes nothing.
-use Rattle.std.specs.Prelude.{Bool, true, false, cond}
+use Rattle.std.specs.Prelude.{ℕ, Bool, false, cond, Option, None}
 use Rattle.event.specs.declared.Event.{Event}
 use Rattle.event.specs.declared.Event.TheVariants as ev
-use Rattle.offer.specs.declared.Slot.{Slot}
-use Rattle.offer.specs.declared.Slot.TheVariants.{Empty, Full}
+use Rattle.offer.specs.declared.Byte.{Byte}
 use Rattle.offer.specs.declared.Kind.{Kind}
 use Rattle.offer.specs.declared.Kind.TheVariants.{Command, Data, Status}
 
-abbrev pub is_full : Slot → Bool
-is_full Empty = false
-is_full (Full v e) = true
+-- A byte with END or without.
+abbrev pub byte : ℕ → Bool → Byte
+byte v e = record { value = v; end = e }
 
 -- "Kinds: command if active (END off), status if polled (END off), else data."
 abbrev pub kind_of : Bool → Bool → Kind
@@ -28,7 +27,7 @@ put_event Data = ev.Data
 put_event Status = ev.Stat
 
 -- The held register once the byte on offer has been put. "A polled party's held byte stays held."
-abbrev pub spent : Kind → Slot → Slot
-spent Command s = Empty
-spent Data s = Empty
+abbrev pub spent : Kind → Option Byte → Option Byte
+spent Command s = None
+spent Data s = None
 spent Status s = s

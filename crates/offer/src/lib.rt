@@ -2,15 +2,15 @@
 #![tactic(auto)]
 
 ghost use Rattle.std.specs.Prelude.{◌≡◌};
-ghost use Rattle.offer.specs.Offer.{is_full, kind_of, end_of, put_event, spent};
+ghost use Rattle.offer.specs.Offer.{kind_of, end_of, put_event, spent};
 
 use event::Event;
 
-// A byte with its END, or none: the held byte and the data-in byte.
+// A byte with its END, as the held register and data-in have one or none.
 #[derive(Clone, Copy)]
-pub enum Slot {
-    Empty,
-    Full(u8, bool),
+pub struct Byte {
+    pub value: u8,
+    pub end: bool,
 }
 
 // The kind of a byte that is put up.
@@ -21,28 +21,15 @@ pub enum Kind {
     Status,
 }
 
-impl Slot {
-    pub fn is_full(self) -> bool
-        ensures { result ≡ is_full self }
-    {
-        match self {
-            Slot::Empty => false,
-            Slot::Full(_, _) => true,
-        }
-    }
-}
-
 impl Kind {
     // The kind of what a source puts up.
     pub fn of(active: bool, polled: bool) -> Kind
         ensures { result ≡ kind_of active polled }
     {
-        if active {
-            Kind::Command
-        } else if polled {
-            Kind::Status
-        } else {
-            Kind::Data
+        match (active, polled) {
+            (true, _) => Kind::Command,
+            (false, true) => Kind::Status,
+            (false, false) => Kind::Data,
         }
     }
 
@@ -50,11 +37,7 @@ impl Kind {
     pub fn end(self, end: bool) -> bool
         ensures { result ≡ end_of self end }
     {
-        match self {
-            Kind::Command => false,
-            Kind::Data => end,
-            Kind::Status => false,
-        }
+        matches!(self, Kind::Data) && end
     }
 
     pub fn put_event(self) -> Event
@@ -68,12 +51,11 @@ impl Kind {
     }
 
     // What the held register keeps once a byte of this kind has been put.
-    pub fn spent(self, held: Slot) -> Slot
+    pub fn spent(self, held: Option<Byte>) -> Option<Byte>
         ensures { result ≡ spent self held }
     {
         match self {
-            Kind::Command => Slot::Empty,
-            Kind::Data => Slot::Empty,
+            Kind::Command | Kind::Data => None,
             Kind::Status => held,
         }
     }

@@ -1,12 +1,11 @@
 -- The idle party, and a party with one part changed.
 -- Assumes nothing.
-use Rattle.std.specs.Prelude.{ℕ, Bool, true, false}
+use Rattle.std.specs.Prelude.{ℕ, Bool, true, false, Option, None, is_some}
 use Rattle.message.specs.Meaning.{address}
 use Rattle.names.specs.Names.{plain}
 use Rattle.role.specs.Roles.{unaddressed}
-use Rattle.offer.specs.Offer.{is_full}
-use Rattle.party.specs.Types.{Name, Role, Request, Party, Control, Source, Acceptor, Slot, Idle, Sids, Aids}
-use Rattle.party.specs.Types.{Latches, Empty, Nprs}
+use Rattle.party.specs.Types.{Name, Role, Request, Party, Control, Source, Acceptor, Byte, Idle, Sids, Aids}
+use Rattle.party.specs.Types.{Latches, Nprs}
 
 -- "All flags are off, control idle, SIDS, AIDS, nothing held, poll registers 0, NPRS." No byte is marked (document 02,
 -- Q-6), and the own status is "0 at build" (Q-8).
@@ -16,8 +15,8 @@ built_party n = record {
   control = Idle;
   source = Sids;
   acceptor = Aids;
-  held = Empty;
-  input = Empty;
+  held = None;
+  input = None;
   request = record { live = 0; saved = 0; rsv2 = false; service = Nprs };
   latches = record { feoi = false; ist = false };
 }
@@ -32,107 +31,35 @@ one true = 1
 one false = 0
 
 abbrev pub held_bytes : Party → ℕ
-held_bytes p = one (is_full p.held)
+held_bytes p = one (is_some p.held)
 
 -- A party with one part changed: each part once.
 abbrev pub with_role : Role → Party → Party
-with_role r p = record {
-  role = r;
-  control = p.control;
-  source = p.source;
-  acceptor = p.acceptor;
-  held = p.held;
-  input = p.input;
-  request = p.request;
-  latches = p.latches;
-}
+with_role r p = record p { role = r }
 
 abbrev pub with_control : Control → Party → Party
-with_control c p = record {
-  role = p.role;
-  control = c;
-  source = p.source;
-  acceptor = p.acceptor;
-  held = p.held;
-  input = p.input;
-  request = p.request;
-  latches = p.latches;
-}
+with_control c p = record p { control = c }
 
 abbrev pub with_source : Source → Party → Party
-with_source s p = record {
-  role = p.role;
-  control = p.control;
-  source = s;
-  acceptor = p.acceptor;
-  held = p.held;
-  input = p.input;
-  request = p.request;
-  latches = p.latches;
-}
+with_source s p = record p { source = s }
 
 abbrev pub with_acceptor : Acceptor → Party → Party
-with_acceptor a p = record {
-  role = p.role;
-  control = p.control;
-  source = p.source;
-  acceptor = a;
-  held = p.held;
-  input = p.input;
-  request = p.request;
-  latches = p.latches;
-}
+with_acceptor a p = record p { acceptor = a }
 
-abbrev pub with_held : Slot → Party → Party
-with_held s p = record {
-  role = p.role;
-  control = p.control;
-  source = p.source;
-  acceptor = p.acceptor;
-  held = s;
-  input = p.input;
-  request = p.request;
-  latches = p.latches;
-}
+abbrev pub with_held : Option Byte → Party → Party
+with_held s p = record p { held = s }
 
-abbrev pub with_input : Slot → Party → Party
-with_input s p = record {
-  role = p.role;
-  control = p.control;
-  source = p.source;
-  acceptor = p.acceptor;
-  held = p.held;
-  input = s;
-  request = p.request;
-  latches = p.latches;
-}
+abbrev pub with_input : Option Byte → Party → Party
+with_input s p = record p { input = s }
 
 abbrev pub with_request : Request → Party → Party
-with_request q p = record {
-  role = p.role;
-  control = p.control;
-  source = p.source;
-  acceptor = p.acceptor;
-  held = p.held;
-  input = p.input;
-  request = q;
-  latches = p.latches;
-}
+with_request q p = record p { request = q }
 
 abbrev pub with_latches : Latches → Party → Party
-with_latches l p = record {
-  role = p.role;
-  control = p.control;
-  source = p.source;
-  acceptor = p.acceptor;
-  held = p.held;
-  input = p.input;
-  request = p.request;
-  latches = l;
-}
+with_latches l p = record p { latches = l }
 
 abbrev pub with_feoi : Bool → Latches → Latches
-with_feoi on l = record { feoi = on; ist = l.ist }
+with_feoi on l = record l { feoi = on }
 
 abbrev pub with_ist : Bool → Latches → Latches
-with_ist on l = record { feoi = l.feoi; ist = on }
+with_ist on l = record l { ist = on }

@@ -1,12 +1,12 @@
 -- What a source offers, what putting it leaves of the party, and what hearing does to one (document 01, "A step of
 -- party p").
 -- Assumes nothing.
-use Rattle.std.specs.Prelude.{ℕ, Bool, false, not, cond, ◌&&◌, ◌||◌}
+use Rattle.std.specs.Prelude.{ℕ, Bool, false, not, cond, ◌&&◌, ◌||◌, Option, Some}
 use Rattle.message.specs.Meaning.{meaning_of}
 use Rattle.role.specs.Roles.{role_heard}
 use Rattle.service.specs.Service.{status, reported}
-use Rattle.offer.specs.Offer.{spent}
-use Rattle.party.specs.Types.{Party, Slot, Full, Kind, Command, Data, Status, Request, Strs}
+use Rattle.offer.specs.Offer.{byte, spent}
+use Rattle.party.specs.Types.{Party, Byte, Kind, Command, Data, Status, Request, Strs}
 use Rattle.party.specs.Parts.{with_source, with_held, with_request, with_role}
 use Rattle.party.specs.Driving.{is_active}
 
@@ -19,8 +19,8 @@ abbrev pub is_polled : Bool → Party → Bool
 is_polled atn p = not atn && p.role.talk && p.role.poll
 
 -- "a byte on offer (polled: the status byte, else the held byte)"
-abbrev pub offer : Bool → Party → Slot
-offer polled p = cond polled (Full (status p.request) false) p.held
+abbrev pub offer : Bool → Party → Option Byte
+offer polled p = cond polled (Some (byte (status p.request) false)) p.held
 
 -- The request once a byte of this kind is put: a status byte reports it (document 02, Q-5).
 abbrev pub request_parted : Kind → Request → Request

@@ -7,8 +7,7 @@ pub use Rattle.party.specs.declared.Acceptor.{Acceptor}
 pub use Rattle.party.specs.declared.Acceptor.TheVariants.{Aids, Anrs, Acrs, Acds, Awns}
 pub use Rattle.service.specs.declared.Service.{Service}
 pub use Rattle.service.specs.declared.Service.TheVariants.{Nprs, Srqs, Aprs}
-pub use Rattle.offer.specs.declared.Slot.{Slot}
-pub use Rattle.offer.specs.declared.Slot.TheVariants.{Empty, Full}
+pub use Rattle.offer.specs.declared.Byte.{Byte}
 pub use Rattle.offer.specs.declared.Kind.{Kind}
 pub use Rattle.offer.specs.declared.Kind.TheVariants.{Command, Data, Status}
 pub use Rattle.names.specs.declared.Name.{Name}

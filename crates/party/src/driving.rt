@@ -4,6 +4,7 @@ ghost use Rattle.party.specs.Driving.{is_active, drives_dav, drives_nrfd, drives
 ghost use Rattle.party.specs.Driving.{answers_poll};
 
 use crate::{Acceptor, Control, Party, Source};
+use role::configuring::answers_on;
 use service::Service;
 
 impl Party {
@@ -11,70 +12,42 @@ impl Party {
     pub fn is_active(self) -> bool
         ensures { result ≡ is_active self }
     {
-        let control = self.control;
-        match control {
-            Control::Idle => false,
-            Control::Standby => false,
-            Control::Active => true,
-        }
+        matches!(self.control, Control::Active)
     }
 
     pub fn drives_dav(self) -> bool
         ensures { result ≡ drives_dav self }
     {
-        let source = self.source;
-        match source {
-            Source::Sids => false,
-            Source::Sgns => false,
-            Source::Sdys => false,
-            Source::Strs => true,
-        }
+        matches!(self.source, Source::Strs)
     }
 
     pub fn drives_nrfd(self) -> bool
         ensures { result ≡ drives_nrfd self }
     {
-        let acceptor = self.acceptor;
-        match acceptor {
-            Acceptor::Aids => false,
-            Acceptor::Anrs => true,
-            Acceptor::Acrs => false,
-            Acceptor::Acds => true,
-            Acceptor::Awns => true,
-        }
+        matches!(
+            self.acceptor,
+            Acceptor::Anrs | Acceptor::Acds | Acceptor::Awns
+        )
     }
 
     pub fn drives_ndac(self) -> bool
         ensures { result ≡ drives_ndac self }
     {
-        let acceptor = self.acceptor;
-        match acceptor {
-            Acceptor::Aids => false,
-            Acceptor::Anrs => true,
-            Acceptor::Acrs => true,
-            Acceptor::Acds => true,
-            Acceptor::Awns => false,
-        }
+        matches!(
+            self.acceptor,
+            Acceptor::Anrs | Acceptor::Acrs | Acceptor::Acds
+        )
     }
 
     pub fn drives_srq(self) -> bool
         ensures { result ≡ drives_srq self }
     {
-        let request = self.request;
-        let service = request.service;
-        match service {
-            Service::Nprs => false,
-            Service::Srqs => true,
-            Service::Aprs => false,
-        }
+        matches!(self.request.service, Service::Srqs)
     }
 
     pub fn answers_poll(self, line: u8) -> bool
         ensures { result ≡ answers_poll line self }
     {
-        let role = self.role;
-        let response = role.response;
-        let latches = self.latches;
-        response.answers_on(line, latches.ist)
+        answers_on(self.role.response, line, self.latches.ist)
     }
 }

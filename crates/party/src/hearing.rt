@@ -10,7 +10,6 @@ impl Party {
     pub fn heard(self, v: u8) -> Party
         ensures { result ≡ party_heard v self }
     {
-        let role = self.role;
-        self.with_role(role.heard(meaning_of(v)))
+        self.with_role(self.role.heard(meaning_of(v)))
     }
 }

@@ -6,7 +6,7 @@ ghost use Rattle.party.specs.Parts.{built_party, with_feoi, with_ist};
 ghost use Rattle.role.specs.Roles.{unaddressed};
 
 use names::Name;
-use offer::Slot;
+use offer::Byte;
 use role::Role;
 use service::Request;
 
@@ -18,7 +18,7 @@ pub mod sending;
 pub mod settling;
 
 // A party's place on the bus, from 0. Document 01: "a party's place and its address are separate kinds of number".
-#[derive(Clone, Copy)]
+#[derive(Clone, Copy, PartialEq, Eq)]
 pub struct Place(pub u8);
 
 #[derive(Clone, Copy)]
@@ -65,19 +65,13 @@ impl Latches {
     pub fn with_feoi(self, feoi: bool) -> Latches
         ensures { result ≡ with_feoi feoi self }
     {
-        Latches {
-            feoi,
-            ist: self.ist,
-        }
+        Latches { feoi, ..self }
     }
 
     pub fn with_ist(self, ist: bool) -> Latches
         ensures { result ≡ with_ist ist self }
     {
-        Latches {
-            feoi: self.feoi,
-            ist,
-        }
+        Latches { ist, ..self }
     }
 }
 
@@ -87,9 +81,9 @@ pub struct Party {
     pub control: Control,
     pub source: Source,
     pub acceptor: Acceptor,
-    pub held: Slot,
+    pub held: Option<Byte>,
     // The data-in byte.
-    pub input: Slot,
+    pub input: Option<Byte>,
     pub request: Request,
     pub latches: Latches,
 }
@@ -101,8 +95,8 @@ impl Party {
         control: Control::Idle,
         source: Source::Sids,
         acceptor: Acceptor::Aids,
-        held: Slot::Empty,
-        input: Slot::Empty,
+        held: None,
+        input: None,
         request: Request::IDLE,
         latches: Latches::IDLE,
     };
@@ -111,6 +105,9 @@ impl Party {
     pub fn build(name: Name) -> Party
         ensures { result ≡ built_party name }
     {
-        Party::IDLE.with_role(Role::unaddressed(name))
+        Party {
+            role: Role::unaddressed(name),
+            ..Party::IDLE
+        }
     }
 }

@@ -4,7 +4,7 @@ ghost use Rattle.party.specs.Sending.{is_source, is_polled, offer, request_parte
 ghost use Rattle.service.specs.Service.{status};
 
 use crate::{Party, Source};
-use offer::{Kind, Slot};
+use offer::{Byte, Kind};
 use service::Request;
 
 // The request once a byte of this kind is put: a status byte reports it.
@@ -12,8 +12,7 @@ fn request_parted(kind: Kind, request: Request) -> Request
     ensures { result ≡ request_parted kind request }
 {
     match kind {
-        Kind::Command => request,
-        Kind::Data => request,
+        Kind::Command | Kind::Data => request,
         Kind::Status => request.reported(),
     }
 }
@@ -22,36 +21,24 @@ impl Party {
     pub fn is_source(self, atn: bool) -> bool
         ensures { result ≡ is_source atn self }
     {
-        let role = self.role;
-        if self.is_active() {
-            true
-        } else if atn {
-            false
-        } else {
-            role.talk
-        }
+        self.is_active() || (!atn && self.role.talk)
     }
 
     pub fn is_polled(self, atn: bool) -> bool
         ensures { result ≡ is_polled atn self }
     {
-        let role = self.role;
-        if atn {
-            false
-        } else if role.talk {
-            role.poll
-        } else {
-            false
-        }
+        !atn && self.role.talk && self.role.poll
     }
 
     // The byte on offer.
-    pub fn offer(self, polled: bool) -> Slot
+    pub fn offer(self, polled: bool) -> Option<Byte>
         ensures { result ≡ offer polled self }
     {
         if polled {
-            let request = self.request;
-            Slot::Full(request.status(), false)
+            Some(Byte {
+                value: self.request.status(),
+                end: false,
+            })
         } else {
             self.held
         }
@@ -61,10 +48,11 @@ impl Party {
     pub fn parted(self, kind: Kind) -> Party
         ensures { result ≡ parted kind self }
     {
-        let held = self.held;
-        let request = self.request;
-        self.with_request(request_parted(kind, request))
-            .with_held(kind.spent(held))
-            .with_source(Source::Strs)
+        Party {
+            request: request_parted(kind, self.request),
+            held: kind.spent(self.held),
+            source: Source::Strs,
+            ..self
+        }
     }
 }

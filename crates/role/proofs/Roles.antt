@@ -6,8 +6,8 @@ use mathlib.Core.Bool.{Bool, true, false, ◌||◌}
 use mathlib.Core.Logic.{◌⊎◌, inl, inr}
 use Prim.Native.Nat.{ℕ, ◌<◌}
 use borrow.Author.Tests.{eqb-true}
-use Rattle.message.specs.declared.Meaning.TheVariants.{Other, Listen, Unlisten, Talk, Untalk, Sdc, Get, Tct, Dcl, Spe}
-use Rattle.message.specs.declared.Meaning.TheVariants.{Spd, Second, Neither, Ppc, Ppu}
+use Rattle.message.specs.declared.Meaning.TheVariants.{Listen, Unlisten, Talk, Untalk, Sdc, Get, Tct, Dcl}
+use Rattle.message.specs.declared.Meaning.TheVariants.{Second, Neither, Ppc}
 use Rattle.role.specs.Types.{Address, SecondaryAddress, Meaning, Name, Role, Event}
 use Rattle.role.specs.Types.ev
 use Rattle.names.specs.Names.{meets, clashes}
@@ -99,77 +99,34 @@ abbrev pub Single : Role → Type 0
 Single r = r.talk ≡ true → r.listen ≡ true → ⊥
 
 pub hear_single : (m : Meaning) (r : Role) → Single r → Single (role_heard m r)
-hear_single Other r h = h
 hear_single (Listen a) r h = listen_elim Single (name_of r).secondary (owns a r) r (λ e. no (cc)) h
 hear_single Unlisten r h = λ e f. no (cc)
 hear_single (Talk a) r h = talk_elim Single (name_of r).secondary (owns a r) r (λ e f. no (cc)) (λ e. no (cc)) h
 hear_single Untalk r h = λ e. no (cc)
-hear_single Sdc r h = h
-hear_single Get r h = h
-hear_single Tct r h = h
-hear_single Dcl r h = h
-hear_single Spe r h = h
-hear_single Spd r h = h
 hear_single (Second s) r h = second_elim Single r.mark (owns_secondary s r) r (λ e f. no (cc)) (λ e. no (cc))
     (λ e. no (cc)) h
-hear_single Neither r h = h
-hear_single Ppc r h = h
-hear_single Ppu r h = h
+hear_single m r h = h
 
 pub hear_name : (m : Meaning) (r : Role) → name_of (role_heard m r) ≡ name_of r
-hear_name Other r = refl
 hear_name (Listen a) r = listen_elim (λ (x : Role). name_of x ≡ name_of r) (name_of r).secondary (owns a r) r refl refl
-hear_name Unlisten r = refl
 hear_name (Talk a) r = talk_elim (λ (x : Role). name_of x ≡ name_of r) (name_of r).secondary (owns a r) r refl refl refl
-hear_name Untalk r = refl
-hear_name Sdc r = refl
-hear_name Get r = refl
-hear_name Tct r = refl
-hear_name Dcl r = refl
-hear_name Spe r = refl
-hear_name Spd r = refl
 hear_name (Second s) r = second_elim (λ (x : Role). name_of x ≡ name_of r) r.mark (owns_secondary s r) r refl refl refl
     refl
-hear_name Neither r = refl
-hear_name Ppc r = refl
-hear_name Ppu r = refl
+hear_name m r = refl
 
 -- talk or listen changed by the host before what stands is heard: PPC marks by listen, and leaves no talk mark
 same_mark : (m : Meaning) (t l : Bool) (r : Role) → talk_primary (mark_after m (with_flags t l r)) ≡ talk_primary
     (mark_after m r)
-same_mark Other t l r = refl
-same_mark (Listen a) t l r = refl
-same_mark Unlisten t l r = refl
-same_mark (Talk a) t l r = refl
-same_mark Untalk t l r = refl
-same_mark Sdc t l r = refl
-same_mark Get t l r = refl
-same_mark Tct t l r = refl
-same_mark Dcl t l r = refl
-same_mark Spe t l r = refl
-same_mark Spd t l r = refl
-same_mark (Second s) t l r = refl
-same_mark Neither t l r = refl
 same_mark Ppc t l r = configured_unmarked l r.mark ∙ sym (configured_unmarked r.listen r.mark)
-same_mark Ppu t l r = refl
+same_mark m t l r = refl
 
 no_more_talk : (m : Meaning) (t l : Bool) (r : Role) → (t ≡ true → r.talk ≡ true)
     → (role_heard m (with_flags t l r)).talk ≡ true → (role_heard m r).talk ≡ true
-no_more_talk Other t l r h = h
 no_more_talk (Listen a) t l r h = listen_weak (name_of r).secondary (owns a r) t l r h
-no_more_talk Unlisten t l r h = h
 no_more_talk (Talk a) t l r h = talk_weak (name_of r).secondary (owns a r) t l r h
 no_more_talk Untalk t l r h = λ e. e
-no_more_talk Sdc t l r h = h
-no_more_talk Get t l r h = h
-no_more_talk Tct t l r h = h
-no_more_talk Dcl t l r h = h
-no_more_talk Spe t l r h = h
-no_more_talk Spd t l r h = h
 no_more_talk (Second s) t l r h = second_weak r.mark (owns_secondary s r) t l r h
-no_more_talk Neither t l r h = h
-no_more_talk Ppc t l r h = h
-no_more_talk Ppu t l r h = h
+no_more_talk m t l r h = h
 
 pub hear_weak : (m : Meaning) (t l : Bool) (r : Role) → (t ≡ true → r.talk ≡ true)
     → Weak (role_heard m r) (role_heard m (with_flags t l r))
@@ -178,40 +135,16 @@ hear_weak m t l r h = weakly (no_more_talk m t l r h) (same_mark m t l r)
 
 -- the command that passes control leaves every talk as it is
 pub hear_passes : (m : Meaning) (r : Role) → passes_control m ≡ true → (role_heard m r).talk ≡ r.talk
-hear_passes Other r h = no (cc)
-hear_passes (Listen a) r h = no (cc)
-hear_passes Unlisten r h = no (cc)
-hear_passes (Talk a) r h = no (cc)
-hear_passes Untalk r h = no (cc)
-hear_passes Sdc r h = no (cc)
-hear_passes Get r h = no (cc)
 hear_passes Tct r h = refl
-hear_passes Dcl r h = no (cc)
-hear_passes Spe r h = no (cc)
-hear_passes Spd r h = no (cc)
-hear_passes (Second s) r h = no (cc)
-hear_passes Neither r h = no (cc)
-hear_passes Ppc r h = no (cc)
-hear_passes Ppu r h = no (cc)
+hear_passes m r h = no (cc)
 
 -- what holds of heard, clear and trigger holds of the event of hearing
 pub hear_events : (P : Event → Type 0) → P ev.Heard → P ev.Clear → P ev.Trigger → (m : Meaning) (listen : Bool)
     → P (hear_event m listen)
-hear_events P h c t Other l = h
-hear_events P h c t (Listen a) l = h
-hear_events P h c t Unlisten l = h
-hear_events P h c t (Talk a) l = h
-hear_events P h c t Untalk l = h
 hear_events P h c t Sdc l = cond-elim P l (λ _. c) (λ _. h)
 hear_events P h c t Get l = cond-elim P l (λ _. t) (λ _. h)
-hear_events P h c t Tct l = h
 hear_events P h c t Dcl l = c
-hear_events P h c t Spe l = h
-hear_events P h c t Spd l = h
-hear_events P h c t (Second s) l = h
-hear_events P h c t Neither l = h
-hear_events P h c t Ppc l = h
-hear_events P h c t Ppu l = h
+hear_events P h c t m l = h
 
 -- Every one of n parties with roles w hears m, with ATN true, and has role u then: still at most one talks.
 module _ (atn : Bool) (on : atn ≡ true) (n : ℕ) (w u : ℕ → Role) (D : Apart n w) (A : Addressed atn w) where
@@ -330,19 +263,11 @@ module _ (atn : Bool) (on : atn ≡ true) (n : ℕ) (w u : ℕ → Role) (D : Ap
   }
 
   pub hear_all : (m : Meaning) → Heard m → Addressed atn u
-  hear_all Other H = tame Other H (λ r e. e) (λ r. refl)
   hear_all (Listen a) H = tame (Listen a) H (λ r. listen_talk (name_of r).secondary (owns a r) r)
       (λ r. listen_unmarked (name_of r).secondary (owns a r))
-  hear_all Unlisten H = tame Unlisten H (λ r e. e) (λ r. refl)
   hear_all (Talk a) H = talked a H
   hear_all Untalk H = tame Untalk H (λ r e. no (cc)) (λ r. refl)
-  hear_all Sdc H = tame Sdc H (λ r e. e) (λ r. refl)
-  hear_all Get H = tame Get H (λ r e. e) (λ r. refl)
-  hear_all Tct H = tame Tct H (λ r e. e) (λ r. refl)
-  hear_all Dcl H = tame Dcl H (λ r e. e) (λ r. refl)
-  hear_all Spe H = tame Spe H (λ r e. e) (λ r. refl)
-  hear_all Spd H = tame Spd H (λ r e. e) (λ r. refl)
   hear_all (Second s) H = seconds s H
   hear_all Neither H = pass_by H
   hear_all Ppc H = tame Ppc H (λ r e. e) (λ r. configured_unmarked r.listen r.mark)
-  hear_all Ppu H = tame Ppu H (λ r e. e) (λ r. refl)
+  hear_all m H = tame m H (λ r e. e) (λ r. refl)

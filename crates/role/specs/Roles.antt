@@ -1,12 +1,12 @@
 -- A role: a party's name, flags, mark and response; and what hearing a command does to them (document 01, "Hearing";
 -- document 02, Q-3 and Q-8).
 -- Assumes nothing.
-use Rattle.std.specs.Prelude.{ℕ, ◌/◌, ◌%◌, Bool, false, true, not, cond, ◌&&◌, ltb, eqb}
+use Rattle.std.specs.Prelude.{ℕ, ◌/◌, ◌%◌, Bool, false, true, not, cond, ◌&&◌, ltb, eqb, Option, Some, None}
 use Rattle.message.specs.declared.Meaning.TheVariants.{Other, Listen, Unlisten, Talk, Untalk, Sdc, Get, Tct, Dcl, Spe}
 use Rattle.message.specs.declared.Meaning.TheVariants.{Spd, Second, Neither, Ppc, Ppu}
 use Rattle.names.specs.Names.{is_given}
-use Rattle.role.specs.Types.{Name, Mark, Unmarked, Role, Address, SecondaryAddress, Meaning, Secondary, Absent}
-use Rattle.role.specs.Types.{Given, TalkPrimary, ListenPrimary, Configuring, Response, Unset, Set, Event}
+use Rattle.role.specs.Types.{Name, Mark, Unmarked, Role, Address, SecondaryAddress, Meaning}
+use Rattle.role.specs.Types.{TalkPrimary, ListenPrimary, Configuring, Response, Event}
 use Rattle.role.specs.Types.ev
 
 -- "All flags are off", no mark is set, and nobody has configured a response.
@@ -17,49 +17,21 @@ unaddressed n = record {
   listen = false;
   poll = false;
   mark = Unmarked;
-  response = Unset;
+  response = None;
 }
 
 -- A role with talk and listen changed, with poll mode changed, with the mark changed, and with the response changed.
 abbrev pub with_flags : Bool → Bool → Role → Role
-with_flags t l r = record {
-  name = r.name;
-  talk = t;
-  listen = l;
-  poll = r.poll;
-  mark = r.mark;
-  response = r.response;
-}
+with_flags t l r = record r { talk = t; listen = l }
 
 abbrev pub with_poll_mode : Bool → Role → Role
-with_poll_mode q r = record {
-  name = r.name;
-  talk = r.talk;
-  listen = r.listen;
-  poll = q;
-  mark = r.mark;
-  response = r.response;
-}
+with_poll_mode q r = record r { poll = q }
 
 abbrev pub with_mark : Mark → Role → Role
-with_mark m r = record {
-  name = r.name;
-  talk = r.talk;
-  listen = r.listen;
-  poll = r.poll;
-  mark = m;
-  response = r.response;
-}
+with_mark m r = record r { mark = m }
 
-abbrev pub with_response : Response → Role → Role
-with_response x r = record {
-  name = r.name;
-  talk = r.talk;
-  listen = r.listen;
-  poll = r.poll;
-  mark = r.mark;
-  response = x;
-}
+abbrev pub with_response : Option Response → Role → Role
+with_response x r = record r { response = x }
 
 -- "talk, listen and poll mode off everywhere": an interface clear leaves the rest of a role.
 abbrev pub flags_off : Role → Role
@@ -82,9 +54,9 @@ owns_secondary s r = is_given s r.name.secondary
 
 -- The mark that a talk or listen address sets, the own one or not. Document 02, Q-3: "For such a party the own talk
 -- (listen) address only sets "talk primary" ("listen primary")."
-abbrev pub mark_set : Secondary → Bool → Mark → Mark
-mark_set Absent mine m = Unmarked
-mark_set (Given s) mine m = cond mine m Unmarked
+abbrev pub mark_set : Option SecondaryAddress → Bool → Mark → Mark
+mark_set None mine m = Unmarked
+mark_set (Some s) mine m = cond mine m Unmarked
 
 -- "PPC (05) heard while listening marks a party "configuring"" (document 02, Q-8). As any primary command it clears the
 -- marks of Q-3.
@@ -113,13 +85,13 @@ mark_after Ppu r = Unmarked
 
 -- A primary address, the own one or not: "Own listen address: listen on, talk off." "Own talk address: talk on, listen
 -- off. Another talk address ..: talk off." With a secondary the own one leaves both alone.
-abbrev pub listen_addressed : Secondary → Bool → Role → Role
-listen_addressed Absent mine r = cond mine (with_flags false true r) r
-listen_addressed (Given s) mine r = r
+abbrev pub listen_addressed : Option SecondaryAddress → Bool → Role → Role
+listen_addressed None mine r = cond mine (with_flags false true r) r
+listen_addressed (Some s) mine r = r
 
-abbrev pub talk_addressed : Secondary → Bool → Role → Role
-talk_addressed Absent mine r = cond mine (with_flags true false r) (with_flags false r.listen r)
-talk_addressed (Given s) mine r = cond mine r (with_flags false r.listen r)
+abbrev pub talk_addressed : Option SecondaryAddress → Bool → Role → Role
+talk_addressed None mine r = cond mine (with_flags true false r) (with_flags false r.listen r)
+talk_addressed (Some s) mine r = cond mine r (with_flags false r.listen r)
 
 -- A secondary, the own one or not: "The own secondary (60 + secondary) while talk primary turns talk on and listen
 -- off; while listen primary it turns listen on and talk off. Any other secondary while talk primary turns talk off."
@@ -151,18 +123,18 @@ addressed Ppu r = r
 
 -- "60 to 6F (all hexadecimal) sets the response, with bit 8 as sense and the low three bits as line minus one; 70 to 7F
 -- removes it." A secondary is the code without 60.
-abbrev pub response_set : SecondaryAddress → Response
-response_set s = cond (ltb s.0 16) (Set (eqb (s.0 / 8) 1) (s.0 % 8)) Unset
+abbrev pub response_set : SecondaryAddress → Option Response
+response_set s = cond (ltb s.0 16) (Some (record { sense = eqb (s.0 / 8) 1; line = s.0 % 8 })) None
 
 -- "While configuring": what would be the response then, and with any other mark the response as it was.
-abbrev pub configured : Mark → Response → Response → Response
+abbrev pub configured : Mark → Option Response → Option Response → Option Response
 configured Unmarked new x = x
 configured TalkPrimary new x = x
 configured ListenPrimary new x = x
 configured Configuring new x = new
 
 -- The response that hearing leaves. "PPU (15) removes it".
-abbrev pub response_after : Meaning → Role → Response
+abbrev pub response_after : Meaning → Role → Option Response
 response_after Other r = r.response
 response_after (Listen a) r = r.response
 response_after Unlisten r = r.response
@@ -175,9 +147,9 @@ response_after Dcl r = r.response
 response_after Spe r = r.response
 response_after Spd r = r.response
 response_after (Second s) r = configured r.mark (response_set s) r.response
-response_after Neither r = configured r.mark Unset r.response
+response_after Neither r = configured r.mark None r.response
 response_after Ppc r = r.response
-response_after Ppu r = Unset
+response_after Ppu r = None
 
 -- The role that hearing leaves.
 abbrev pub role_heard : Meaning → Role → Role
@@ -190,9 +162,9 @@ agrees false sense = not sense
 
 -- Does a party with this own status answer on line k, counted from 0: "some configured party on it has a status equal
 -- to its sense".
-abbrev pub answers_on : ℕ → Bool → Response → Bool
-answers_on k status Unset = false
-answers_on k status (Set sense line) = eqb k line && agrees status sense
+abbrev pub answers_on : ℕ → Bool → Option Response → Bool
+answers_on k status None = false
+answers_on k status (Some r) = eqb k r.line && agrees status r.sense
 
 -- The event of who hears, listening or not. "DCL, or SDC while listening: event clear. GET while listening: event
 -- trigger."

@@ -4,15 +4,14 @@ ghost use Rattle.role.specs.Roles.{owns, owns_secondary, mark_set, listen_addres
 
 use crate::{Mark, Role};
 use message::{Address, SecondaryAddress};
-use names::Secondary;
 
 // The mark that a primary address sets, the own one or not, for a party with this secondary.
-pub(crate) fn mark_set(secondary: Secondary, mine: bool, mark: Mark) -> Mark
+pub(crate) fn mark_set(secondary: Option<SecondaryAddress>, mine: bool, mark: Mark) -> Mark
     ensures { result ≡ mark_set secondary mine mark }
 {
     match secondary {
-        Secondary::Absent => Mark::Unmarked,
-        Secondary::Given(_) => if mine { mark } else { Mark::Unmarked },
+        Some(_) if mine => mark,
+        _ => Mark::Unmarked,
     }
 }
 
@@ -20,48 +19,33 @@ impl Role {
     pub(crate) fn owns(self, a: Address) -> bool
         ensures { result ≡ owns a self }
     {
-        let name = self.name;
-        let mine = name.address;
-        a.0 == mine.0
+        a == self.name.address
     }
 
     pub(crate) fn owns_secondary(self, s: SecondaryAddress) -> bool
         ensures { result ≡ owns_secondary s self }
     {
-        let name = self.name;
-        let mine = name.secondary;
-        mine.is_given(s)
+        self.name.is_given(s)
     }
 
     // A listen address, the own one or not, for a party with this secondary.
-    pub(crate) fn listen_addressed(self, secondary: Secondary, mine: bool) -> Role
+    pub(crate) fn listen_addressed(self, secondary: Option<SecondaryAddress>, mine: bool) -> Role
         ensures { result ≡ listen_addressed secondary mine self }
     {
         match secondary {
-            Secondary::Absent => if mine {
-                self.with_flags(false, true)
-            } else {
-                self
-            },
-            Secondary::Given(_) => self,
+            None if mine => self.with_flags(false, true),
+            _ => self,
         }
     }
 
     // A talk address, the own one or not, for a party with this secondary.
-    pub(crate) fn talk_addressed(self, secondary: Secondary, mine: bool) -> Role
+    pub(crate) fn talk_addressed(self, secondary: Option<SecondaryAddress>, mine: bool) -> Role
         ensures { result ≡ talk_addressed secondary mine self }
     {
         match secondary {
-            Secondary::Absent => if mine {
-                self.with_flags(true, false) // the primary is the whole address
-            } else {
-                self.with_flags(false, self.listen)
-            },
-            Secondary::Given(_) => if mine {
-                self // the secondary is to come
-            } else {
-                self.with_flags(false, self.listen)
-            },
+            _ if !mine => self.with_flags(false, self.listen),
+            None => self.with_flags(true, false), // the primary is the whole address
+            Some(_) => self, // the secondary is to come
         }
     }
 
@@ -70,22 +54,10 @@ impl Role {
         ensures { result ≡ seconded mark mine self }
     {
         match mark {
-            Mark::Unmarked => self,
-            Mark::TalkPrimary => {
-                if mine {
-                    self.with_flags(true, false)
-                } else {
-                    self.with_flags(false, self.listen) // another one's secondary
-                }
-            }
-            Mark::ListenPrimary => {
-                if mine {
-                    self.with_flags(false, true)
-                } else {
-                    self
-                }
-            }
-            Mark::Configuring => self, // no address
+            Mark::TalkPrimary if mine => self.with_flags(true, false),
+            Mark::TalkPrimary => self.with_flags(false, self.listen), // another one's secondary
+            Mark::ListenPrimary if mine => self.with_flags(false, true),
+            _ => self, // while configuring it is no address
         }
     }
 }

@@ -1,35 +1,18 @@
 // Parallel poll: what configuring does to who hears it, and which line a party answers on.
 ghost use Rattle.std.specs.Prelude.{◌≡◌};
-ghost use Rattle.role.specs.Roles.{configured_by, response_set, configured, agrees, answers_on};
+ghost use Rattle.role.specs.Roles.{configured_by, response_set, configured, answers_on};
 
 use crate::{Mark, Response};
 use message::SecondaryAddress;
 
-// Is the own status equal to the sense?
-fn agrees(status: bool, sense: bool) -> bool
-    ensures { result ≡ agrees status sense }
-{
-    if status {
-        sense
-    } else if sense {
-        false
-    } else {
-        true
-    }
-}
-
 // The response that a secondary sets while configuring: sixteen codes set one, the others remove it.
-pub(crate) fn response_set(s: SecondaryAddress) -> Response
+pub(crate) fn response_set(s: SecondaryAddress) -> Option<Response>
     ensures { result ≡ response_set s }
 {
-    if s.0 < 16 {
-        Response::Set {
-            sense: s.0 / 8 == 1,
-            line: s.0 % 8,
-        }
-    } else {
-        Response::Unset
-    }
+    (s.0 < 16).then_some(Response {
+        sense: s.0 / 8 == 1,
+        line: s.0 % 8,
+    })
 }
 
 impl Mark {
@@ -43,32 +26,25 @@ impl Mark {
             self.without_address()
         }
     }
-}
 
-impl Response {
-    // The response of who has heard what would set another, with this mark.
-    pub(crate) fn configured(self, mark: Mark, new: Response) -> Response
-        ensures { result ≡ configured mark new self }
-    {
-        match mark {
-            Mark::Unmarked => self,
-            Mark::TalkPrimary => self,
-            Mark::ListenPrimary => self,
-            Mark::Configuring => new,
-        }
-    }
-
-    // Does a party with this own status answer on the line?
-    pub fn answers_on(self, line: u8, status: bool) -> bool
-        ensures { result ≡ answers_on line status self }
+    // The response of who has heard, with this mark, what would make of one the other.
+    pub(crate) fn configured(
+        self,
+        new: Option<Response>,
+        response: Option<Response>,
+    ) -> Option<Response>
+        ensures { result ≡ configured self new response }
     {
         match self {
-            Response::Unset => false,
-            Response::Set { sense, line: own } => if line == own {
-                agrees(status, sense)
-            } else {
-                false
-            },
+            Mark::Configuring => new,
+            _ => response,
         }
     }
+}
+
+// Does a party with this own status answer on the line?
+pub fn answers_on(response: Option<Response>, line: u8, status: bool) -> bool
+    ensures { result ≡ answers_on line status response }
+{
+    response.is_some_and(|r| line == r.line && status == r.sense)
 }

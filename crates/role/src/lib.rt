@@ -23,9 +23,9 @@ pub enum Mark {
 
 // How a party answers a parallel poll: on which of the eight lines, from 0, and at which own status.
 #[derive(Clone, Copy)]
-pub enum Response {
-    Unset,
-    Set { sense: bool, line: u8 },
+pub struct Response {
+    pub sense: bool,
+    pub line: u8,
 }
 
 // What hearing reads and writes: the name, the flags talk, listen and poll mode, the mark, and the response.
@@ -36,7 +36,7 @@ pub struct Role {
     pub listen: bool,
     pub poll: bool,
     pub mark: Mark,
-    pub response: Response,
+    pub response: Option<Response>,
 }
 
 impl Mark {
@@ -45,9 +45,7 @@ impl Mark {
         ensures { result ≡ without_address self }
     {
         match self {
-            Mark::Unmarked => Mark::Unmarked,
-            Mark::TalkPrimary => Mark::Unmarked,
-            Mark::ListenPrimary => Mark::Unmarked,
+            Mark::Unmarked | Mark::TalkPrimary | Mark::ListenPrimary => Mark::Unmarked,
             Mark::Configuring => Mark::Configuring,
         }
     }
@@ -60,126 +58,53 @@ impl Role {
         listen: false,
         poll: false,
         mark: Mark::Unmarked,
-        response: Response::Unset,
+        response: None,
     };
 
     // All flags and marks off, and no response.
     pub fn unaddressed(name: Name) -> Role
         ensures { result ≡ unaddressed name }
     {
-        Role {
-            name,
-            talk: false,
-            listen: false,
-            poll: false,
-            mark: Mark::Unmarked,
-            response: Response::Unset,
-        }
+        Role { name, ..Role::IDLE }
     }
 
     // All flags off.
     pub fn flags_off(self) -> Role
         ensures { result ≡ flags_off self }
     {
-        let Role {
-            name,
-            talk: _,
-            listen: _,
-            poll: _,
-            mark,
-            response,
-        } = self;
         Role {
-            name,
             talk: false,
             listen: false,
             poll: false,
-            mark,
-            response,
+            ..self
         }
     }
 
     pub fn with_flags(self, talk: bool, listen: bool) -> Role
         ensures { result ≡ with_flags talk listen self }
     {
-        let Role {
-            name,
-            talk: _,
-            listen: _,
-            poll,
-            mark,
-            response,
-        } = self;
         Role {
-            name,
             talk,
             listen,
-            poll,
-            mark,
-            response,
+            ..self
         }
     }
 
     pub fn with_poll_mode(self, poll: bool) -> Role
         ensures { result ≡ with_poll_mode poll self }
     {
-        let Role {
-            name,
-            talk,
-            listen,
-            poll: _,
-            mark,
-            response,
-        } = self;
-        Role {
-            name,
-            talk,
-            listen,
-            poll,
-            mark,
-            response,
-        }
+        Role { poll, ..self }
     }
 
     pub fn with_mark(self, mark: Mark) -> Role
         ensures { result ≡ with_mark mark self }
     {
-        let Role {
-            name,
-            talk,
-            listen,
-            poll,
-            mark: _,
-            response,
-        } = self;
-        Role {
-            name,
-            talk,
-            listen,
-            poll,
-            mark,
-            response,
-        }
+        Role { mark, ..self }
     }
 
-    pub fn with_response(self, response: Response) -> Role
+    pub fn with_response(self, response: Option<Response>) -> Role
         ensures { result ≡ with_response response self }
     {
-        let Role {
-            name,
-            talk,
-            listen,
-            poll,
-            mark,
-            response: _,
-        } = self;
-        Role {
-            name,
-            talk,
-            listen,
-            poll,
-            mark,
-            response,
-        }
+        Role { response, ..self }
     }
 }

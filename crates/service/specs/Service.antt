@@ -25,10 +25,8 @@ abbrev pub asks : ℕ → Bool → Bool
 asks live rsv2 = rsv live || rsv2
 
 abbrev pub request_settled : Bool → Request → Request
-request_settled polled q = record {
+request_settled polled q = record q {
   live = live_settled polled q;
-  saved = q.saved;
-  rsv2 = q.rsv2;
   service = service_settled q.service (asks (live_settled polled q) q.rsv2) polled;
 }
 
@@ -43,11 +41,11 @@ status q = q.live / 128 * 128 + q.live % 64 + aprs_bit q.service
 
 -- "Poll register: sets saved."
 abbrev pub with_saved : ℕ → Request → Request
-with_saved v q = record { live = q.live; saved = v; rsv2 = q.rsv2; service = q.service }
+with_saved v q = record q { saved = v }
 
 -- Document 02, Q-5: "A new host call switches it with 0 or 1."
 abbrev pub with_rsv2 : Bool → Request → Request
-with_rsv2 on q = record { live = q.live; saved = q.saved; rsv2 = on; service = q.service }
+with_rsv2 on q = record q { rsv2 = on }
 
 -- "Putting a status byte in APRS clears rsv2 in that same step."
 abbrev pub rsv2_kept : Service → Bool → Bool

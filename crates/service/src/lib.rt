@@ -29,8 +29,7 @@ impl Service {
         ensures { (result ≡ aprs_bit self) × (result ≤ 64) }
     {
         match self {
-            Service::Nprs => 0,
-            Service::Srqs => 0,
+            Service::Nprs | Service::Srqs => 0,
             Service::Aprs => 64,
         }
     }
@@ -39,42 +38,18 @@ impl Service {
     fn rsv2_kept(self, rsv2: bool) -> bool
         ensures { result ≡ rsv2_kept self rsv2 }
     {
-        match self {
-            Service::Nprs => rsv2,
-            Service::Srqs => rsv2,
-            Service::Aprs => false,
-        }
+        !matches!(self, Service::Aprs) && rsv2
     }
 
     fn settled(self, rsv: bool, polled: bool) -> Service
         ensures { result ≡ service_settled self rsv polled }
     {
         match self {
-            Service::Nprs => {
-                if rsv {
-                    if polled { Service::Nprs } else { Service::Srqs }
-                } else {
-                    Service::Nprs
-                }
-            }
-            Service::Srqs => {
-                if polled {
-                    Service::Aprs
-                } else if rsv {
-                    Service::Srqs
-                } else {
-                    Service::Nprs
-                }
-            }
-            Service::Aprs => {
-                if rsv {
-                    Service::Aprs
-                } else if polled {
-                    Service::Aprs
-                } else {
-                    Service::Nprs
-                }
-            }
+            Service::Nprs if rsv && !polled => Service::Srqs,
+            Service::Srqs if polled => Service::Aprs,
+            Service::Srqs if rsv => Service::Srqs,
+            Service::Aprs if rsv || polled => Service::Aprs,
+            _ => Service::Nprs,
         }
     }
 }
@@ -91,9 +66,7 @@ impl Request {
     pub fn status(self) -> u8
         ensures { result ≡ status self }
     {
-        let service = self.service;
-        let bit = service.aprs_bit();
-        self.live / 128 * 128 + self.live % 64 + bit
+        self.live / 128 * 128 + self.live % 64 + self.service.aprs_bit()
     }
 
     // Unless polled, live becomes saved.
@@ -107,15 +80,12 @@ impl Request {
     pub fn settled(self, polled: bool) -> Request
         ensures { result ≡ request_settled polled self }
     {
-        let before = self.service;
-        let rsv2 = self.rsv2;
         let live = self.live_settled(polled);
-        let service = before.settled((live / 64 % 2 == 1) | rsv2, polled);
+        let rsv = live / 64 % 2 == 1 || self.rsv2;
         Request {
             live,
-            saved: self.saved,
-            rsv2,
-            service,
+            service: self.service.settled(rsv, polled),
+            ..self
         }
     }
 
@@ -123,42 +93,19 @@ impl Request {
     pub fn with_saved(self, saved: u8) -> Request
         ensures { result ≡ with_saved saved self }
     {
-        let Request {
-            live,
-            saved: _,
-            rsv2,
-            service,
-        } = self;
-        Request {
-            live,
-            saved,
-            rsv2,
-            service,
-        }
+        Request { saved, ..self }
     }
 
     pub fn with_rsv2(self, rsv2: bool) -> Request
         ensures { result ≡ with_rsv2 rsv2 self }
     {
-        let Request {
-            live,
-            saved,
-            rsv2: _,
-            service,
-        } = self;
-        Request {
-            live,
-            saved,
-            rsv2,
-            service,
-        }
+        Request { rsv2, ..self }
     }
 
     // The request once its status byte is put: in APRS it has been answered.
     pub fn reported(self) -> Request
         ensures { result ≡ reported self }
     {
-        let service = self.service;
-        self.with_rsv2(service.rsv2_kept(self.rsv2))
+        self.with_rsv2(self.service.rsv2_kept(self.rsv2))
     }
 }
