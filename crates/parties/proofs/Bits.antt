@@ -4,6 +4,7 @@
 use mathlib.Core.Path.{◌≡◌, refl, sym, ap, ◌∙◌}
 use mathlib.Core.Bool.{Bool, true, false, not, cond, ◌&&◌, ◌||◌}
 use mathlib.Core.List.{List, [], ◌∷◌}
+use Rattle.std.specs.Prelude.{Some, None}
 use Prim.Native.Nat.{ℕ, zero, suc, ◌+◌, ◌-◌, ◌*◌, ◌/◌, ◌%◌, ◌^◌, ◌≤◌, ◌<◌}
 use native.Mathlib.Omega.{arith}
 use native.Mathlib.Numerals.{one-add}
@@ -18,7 +19,7 @@ use lib.Count.{ones, ones_step, count_trailing_zeros, under}
 use borrow.Author.Tests.{ltb-false, ltb-true, lt-ltb, le-ltb, eqb-true, eqb-false, eq-eqb, ne_eqb}
 use Rattle.party.specs.Parts.{one}
 use Rattle.role.proofs.Logic.{test}
-use Rattle.parties.specs.Types.{Party, Nowhere, At}
+use Rattle.parties.specs.Types.{Party}
 use Rattle.parties.specs.Places.{place, at, some, first_from}
 use Rattle.parties.specs.Lines.{bits, mask, count_from, has_driver}
 use Rattle.parties.specs.Sweeping.{pushed, without, first_of}
@@ -139,7 +140,7 @@ some_mask n f ps l = some_bits 0 n f ps (λ i. f (at ps i)) l (λ j _. ap (λ (k
 -- The first party is the lowest bit.
 first_bits : (w i n : ℕ) (f : Party → Bool) (ps : List Party) (g : ℕ → Bool) → n ≤ w → n ≤ length ps
     → ((j : ℕ) → j < n → g (i + j) ≡ f (at ps j))
-    → first_from i n f ps ≡ cond (eqb (bits i n g) 0) Nowhere (At (place (i + count_trailing_zeros w (bits i n g))))
+    → first_from i n f ps ≡ cond (eqb (bits i n g) 0) None (Some (place (i + count_trailing_zeros w (bits i n g))))
 unfolding count_trailing_zeros
 first_bits w i zero f ps g v l h = refl
 first_bits w i (suc n) f [] g v l h = absurd (not-suc-le-zero l)
@@ -150,10 +151,10 @@ first_bits (suc w) i (suc n) f (p ∷ ps) g v l h = rw
     (λ j m. ap g (suc-add i j ∙ sym (add-suc i j)) ∙ h (suc j) (omega arith))))
   where
     go : (b : Bool) → first_from (suc i) n f ps
-        ≡ cond (eqb (bits (suc i) n g) 0) Nowhere (At (place (suc i + count_trailing_zeros w (bits (suc i) n g))))
-        → cond b (At (place i)) (first_from (suc i) n f ps)
-        ≡ cond (eqb (one b + 2 * bits (suc i) n g) 0) Nowhere
-        (At (place (i + under (one b) (count_trailing_zeros w (bits (suc i) n g)))))
+        ≡ cond (eqb (bits (suc i) n g) 0) None (Some (place (suc i + count_trailing_zeros w (bits (suc i) n g))))
+        → cond b (Some (place i)) (first_from (suc i) n f ps)
+        ≡ cond (eqb (one b + 2 * bits (suc i) n g) 0) None
+        (Some (place (i + under (one b) (count_trailing_zeros w (bits (suc i) n g)))))
     go true e = rw (odd (bits (suc i) n g), add-zero i) refl
     go false e = rw (
       doubled (bits (suc i) n g),
@@ -165,7 +166,7 @@ first_bits (suc w) i (suc n) f (p ∷ ps) g v l h = rw
 pub first_mask : (n : ℕ) (f : Party → Bool) (ps : List Party) (g : ℕ → Bool) → n ≤ 15 → n ≤ length ps
     → ((j : ℕ) → j < n → g j ≡ f (at ps j)) → first_from 0 n f ps ≡ first_of (mask n g)
 first_mask n f ps g s l h = first_bits 16 0 n f ps g (omega arith) l (λ j m. ap g (zero-add j) ∙ h j m)
-    ∙ ap (λ (x : ℕ). cond (eqb (mask n g) 0) Nowhere (At (place x))) (zero-add (count_trailing_zeros 16 (mask n g)))
+    ∙ ap (λ (x : ℕ). cond (eqb (mask n g) 0) None (Some (place x))) (zero-add (count_trailing_zeros 16 (mask n g)))
 
 -- How the code makes a mask: from the last of n places down, each place pushed below those that it has.
 pub down : (n k : ℕ) (f : ℕ → Bool) (m : ℕ) → k < n → n ≤ 15 → m ≡ bits (suc k) (n - suc k) f

@@ -1,28 +1,26 @@
 -- The laws of the loops over the places: one place more, and as many places as there are.
 -- Assumes nothing.
 use mathlib.Core.Path.{◌≡◌, refl, sym, ap, ◌∙◌}
-use mathlib.Core.Bool.{Bool, true, false, cond, ◌||◌}
-use mathlib.Core.List.{List, [], ◌∷◌, map}
+use mathlib.Core.Bool.{Bool, cond, ◌||◌}
+use mathlib.Core.List.{List, [], ◌∷◌, ◌++◌, map}
+use Rattle.std.specs.Prelude.{Option, Some}
 use Prim.Native.Nat.{ℕ, zero, suc, ◌+◌, ◌≤◌, ◌<◌}
 use native.Mathlib.Omega.{arith}
 use native.Mathlib.Numerals.{add-one}
 use native.Mathlib.Nat.{not-suc-le-zero, le_of_suc-le-suc}
-use lib.ListN.{length, set, length-map, length-set}
+use lib.ListN.{length, set, take, drop, length-map, length-set}
+use Rattle.std.proofs.lemmas.List.{length-take-le}
 use lib.Dec.{ltb}
 use borrow.Author.Tests.{ltb-false}
 use Rattle.party.specs.Parts.{idle}
 use Rattle.role.proofs.Logic.{test}
-use Rattle.parties.specs.Types.{Party, Found, Nowhere, At}
+use Rattle.parties.specs.Types.{Place, Party}
 use Rattle.parties.specs.Places.{place, at, some, each, total, first_from, talks, other_talker, within}
 use Rattle.parties.proofs.Places.{each_past}
 
 -- the length of an array whose elements are structs, as a need has it
 pub length_of_map : (X Y : Type 0) (f : X → Y) (l : List X) (n : ℕ) → length (map f l) ≡ n → length l ≡ n
 length_of_map X Y f l n h = sym (length-map l f) ∙ h
-
-pub or_assoc : (x y z : Bool) → (x || (y || z)) ≡ ((x || y) || z)
-or_assoc true y z = refl
-or_assoc false y z = refl
 
 -- one place more
 pub each_suc : (n : ℕ) (f : Party → Party) (ps : List Party) → n < length ps
@@ -39,42 +37,26 @@ total_suc (suc n) f (p ∷ ps) h = let r = total_suc n f ps (le_of_suc-le-suc h)
 
 -- past the end of the list nothing is added
 pub some_all : (n : ℕ) (f : Party → Bool) (ps : List Party) → length ps ≤ n → some n f ps ≡ some (length ps) f ps
-some_all n f [] h = go n
-  where
-    go : (n : ℕ) → some n f [] ≡ false
-    go zero = refl
-    go (suc n) = refl
 some_all zero f (p ∷ ps) h = absurd (not-suc-le-zero h)
 some_all (suc n) f (p ∷ ps) h = ap (λ (x : Bool). f p || x) (some_all n f ps (le_of_suc-le-suc h))
+some_all n f ps h = refl
 
 pub each_all : (n : ℕ) (f : Party → Party) (ps : List Party) → length ps ≤ n → each n f ps ≡ each (length ps) f ps
-each_all n f [] h = go n
-  where
-    go : (n : ℕ) → each n f [] ≡ []
-    go zero = refl
-    go (suc n) = refl
 each_all zero f (p ∷ ps) h = absurd (not-suc-le-zero h)
 each_all (suc n) f (p ∷ ps) h = ap (◌∷◌ (f p)) (each_all n f ps (le_of_suc-le-suc h))
+each_all n f ps h = refl
 
 pub total_all : (n : ℕ) (f : Party → ℕ) (ps : List Party) → length ps ≤ n → total n f ps ≡ total (length ps) f ps
-total_all n f [] h = go n
-  where
-    go : (n : ℕ) → total n f [] ≡ 0
-    go zero = refl
-    go (suc n) = refl
 total_all zero f (p ∷ ps) h = absurd (not-suc-le-zero h)
 total_all (suc n) f (p ∷ ps) h = ap (λ (x : ℕ). f p + x) (total_all n f ps (le_of_suc-le-suc h))
+total_all n f ps h = refl
 
 pub first_all : (i n : ℕ) (f : Party → Bool) (ps : List Party) → length ps ≤ n
     → first_from i n f ps ≡ first_from i (length ps) f ps
-first_all i n f [] h = go n
-  where
-    go : (n : ℕ) → first_from i n f [] ≡ Nowhere
-    go zero = refl
-    go (suc n) = refl
 first_all i zero f (p ∷ ps) h = absurd (not-suc-le-zero h)
-first_all i (suc n) f (p ∷ ps) h = ap (λ (x : Found). cond (f p) (At (place i)) x)
+first_all i (suc n) f (p ∷ ps) h = ap (λ (x : Option Place). cond (f p) (Some (place i)) x)
     (first_all (suc i) n f ps (le_of_suc-le-suc h))
+first_all i n f ps h = refl
 
 -- Of fifteen places, within n is as good as n: for any A that n places give.
 pub within_same : {A : Type 0} (g : ℕ → A) (n : ℕ) → (15 ≤ n → g n ≡ g 15) → g (within n) ≡ g n
@@ -105,3 +87,19 @@ pub each_turn : (k : ℕ) (f : Party → Party) (ps : List Party) → k < length
     → each (suc k) f ps ≡ set (each k f ps) k (f (at (each k f ps) k))
 each_turn k f ps h = sym (each_suc k f ps h) ∙ ap (λ (p : Party). set (each k f ps) k (f p)) (sym
     (each_past k f ps k (omega arith)))
+
+-- the first n places are changed, and the others stay
+pub each_front : (n : ℕ) (f : Party → Party) (ps : List Party) → each n f (take n ps) ++ drop n ps ≡ each n f ps
+each_front (suc n) f (p ∷ ps) = ap (◌∷◌ (f p)) (each_front n f ps)
+each_front n f ps = refl
+
+-- the loop over the places with parties changes them all
+pub all_changed : (count n k : ℕ) (f : Party → Party) (ps : List Party) {items : List Party} → length ps ≡ 15
+    → (n ≡ within count) × (n ≤ 15) → k ≤ length (take n ps) → length (take n ps) ≤ k → items ≡ each k f (take n ps)
+    → items ++ drop n ps ≡ each count f ps
+all_changed count n k f ps z w l m e =
+    let t : length (take n ps) ≡ n = length-take-le n ps (omega arith) in
+    let q : k ≡ n = omega arith in
+    ap (λ (l : List Party). l ++ drop n ps) (e ∙ ap (λ (i : ℕ). each i f (take n ps)) q) ∙ each_front n f ps
+    ∙ ap (λ (i : ℕ). each i f ps) w.0 ∙ within_same (λ i. each i f ps) count (all_15 (λ i. each i f ps) count ps z
+    (each_all count f ps))

@@ -5,12 +5,12 @@ use Rattle.std.specs.Prelude.{ℕ, ◌+◌, zero, suc, ◌*◌, Bool, cond, not,
 use Rattle.std.specs.Int.Count.{ones}
 use Rattle.party.specs.Driving.{is_active, drives_dav, drives_nrfd, drives_ndac, drives_srq, answers_poll}
 use Rattle.party.specs.Parts.{one}
-use Rattle.parties.specs.Types.{Party, Lines, Scan, Masks, Counts}
+use Rattle.parties.specs.Types.{Party, EachLine, Scan}
 use Rattle.parties.specs.Places.{some, other_talker}
 
 -- "ATN: some party is active. DAV: some source in STRS. NRFD: some acceptor in ANRS, ACDS or AWNS. NDAC: some acceptor
 -- in ANRS, ACRS or ACDS. EOI: the standing byte has END. SRQ: some service in SRQS."
-abbrev pub lines_of : ℕ → List Party → Bool → Lines
+abbrev pub lines_of : ℕ → List Party → Bool → EachLine Bool
 lines_of n ps eoi = record {
   atn = some n is_active ps;
   dav = some n drives_dav ps;
@@ -28,7 +28,7 @@ scan_of i n ps eoi = record { lines = lines_of n ps eoi; talker = other_talker n
 abbrev pub weight : ℕ → Bool → ℕ
 weight w on = cond on w 0
 
-abbrev pub lines_byte : Lines → ℕ
+abbrev pub lines_byte : EachLine Bool → ℕ
 lines_byte l = weight 128 l.atn + weight 64 l.dav + weight 32 l.ndac + weight 16 l.nrfd + weight 8 l.eoi
     + weight 4 l.srq
 
@@ -55,7 +55,7 @@ abbrev pub has_driver : ℕ → Bool
 has_driver m = not (eqb m 0)
 
 -- "as the count of ones"
-abbrev pub counts_of : Masks → Counts
+abbrev pub counts_of : EachLine ℕ → EachLine ℕ
 counts_of m = record {
   atn = ones m.atn;
   dav = ones m.dav;

@@ -1,9 +1,9 @@
 -- The places of a bus: the party at one, and what is said of the first n, which are those with a party.
 -- Assumes nothing.
-use Rattle.std.specs.Prelude.{ℕ, zero, suc, ◌+◌, Bool, true, false, cond, ◌||◌, List, [], ◌∷◌, get_or, set, ltb}
+use Rattle.std.specs.Prelude.{ℕ, zero, suc, ◌+◌, Bool, false, cond, ◌||◌, List, [], ◌∷◌, get_or, set, ltb}
+use Rattle.std.specs.Prelude.{Option, Some, None}
 use Rattle.party.specs.Parts.{idle}
-use Rattle.party.specs.Settling.{attended, settled, cleared}
-use Rattle.parties.specs.Types.{Place, Party, Found, Nowhere, At, Change, Attend, Clear}
+use Rattle.parties.specs.Types.{Place, Party}
 
 abbrev pub place : ℕ → Place
 place i = record { 0 = i }
@@ -31,33 +31,25 @@ total (suc n) f [] = 0
 total (suc n) f (p ∷ ps) = f p + total n f ps
 
 -- The first of n parties, counted from place i, that f holds of.
-abbrev pub first_from : ℕ → ℕ → (Party → Bool) → List Party → Found
-first_from i zero f ps = Nowhere
-first_from i (suc n) f [] = Nowhere
-first_from i (suc n) f (p ∷ ps) = cond (f p) (At (place i)) (first_from (suc i) n f ps)
+abbrev pub first_from : ℕ → ℕ → (Party → Bool) → List Party → Option Place
+first_from i zero f ps = None
+first_from i (suc n) f [] = None
+first_from i (suc n) f (p ∷ ps) = cond (f p) (Some (place i)) (first_from (suc i) n f ps)
 
 abbrev pub talks : Party → Bool
 talks p = p.role.talk
 
-abbrev pub first_talker : ℕ → List Party → Found
+abbrev pub first_talker : ℕ → List Party → Option Place
 first_talker n ps = first_from 0 n talks ps
 
 -- "the talk-on party other than the sender, if there is one"; "another's talk"
-abbrev pub other_talker : ℕ → ℕ → List Party → Found
+abbrev pub other_talker : ℕ → ℕ → List Party → Option Place
 other_talker n i ps = first_talker n (set ps i idle)
 
-abbrev pub is_found : Found → Bool
-is_found Nowhere = false
-is_found (At p) = true
-
 -- How the code goes through the places, of which there are fifteen: which place a number is, and the first where it is
--- none; one change for every party.
+-- none.
 abbrev pub within : ℕ → ℕ
 within n = cond (ltb n 15) n 15
 
 abbrev pub slot : ℕ → ℕ
 slot i = cond (ltb i 15) i 0
-
-abbrev pub changed : Change → Party → Party
-changed (Attend atn) p = settled atn (attended atn p)
-changed Clear p = cleared p

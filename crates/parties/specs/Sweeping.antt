@@ -2,10 +2,11 @@
 -- told by it.
 -- Assumes nothing.
 use Rattle.std.specs.Prelude.{ℕ, ◌+◌, ◌*◌, ◌-◌, ◌/◌, ◌%◌, ◌^◌, Bool, cond, List, ltb, eqb}
+use Rattle.std.specs.Prelude.{Option, Some, None}
 use Rattle.std.specs.Int.Count.{count_trailing_zeros}
 use Rattle.party.specs.Parts.{one}
 use Rattle.party.specs.Driving.{is_active, drives_dav, drives_nrfd, drives_ndac, drives_srq}
-use Rattle.parties.specs.Types.{Party, Found, Nowhere, At, Masks, Sweep, Scan}
+use Rattle.parties.specs.Types.{Place, Party, EachLine, Sweep, Scan}
 use Rattle.parties.specs.Places.{place, at, talks}
 use Rattle.parties.specs.Lines.{mask, has_driver}
 
@@ -39,8 +40,8 @@ abbrev pub without : ℕ → ℕ → ℕ
 without m i = cond (ltb i 15) (cond (eqb (m / 2 ^ i % 2) 1) (m - 2 ^ i) m) m
 
 -- The lowest place of a mask.
-abbrev pub first_of : ℕ → Found
-first_of m = cond (eqb m 0) Nowhere (At (place (count_trailing_zeros 16 m)))
+abbrev pub first_of : ℕ → Option Place
+first_of m = cond (eqb m 0) None (Some (place (count_trailing_zeros 16 m)))
 
 -- What the party at place i is told.
 abbrev pub told : Sweep → ℕ → Bool → Scan
@@ -57,5 +58,5 @@ told s i eoi = record {
 }
 
 -- The masks of all lines. That of EOI is its sender's, which no party's state decides.
-abbrev pub masks_with : Sweep → ℕ → Masks
+abbrev pub masks_with : Sweep → ℕ → EachLine ℕ
 masks_with s sender = record { atn = s.atn; dav = s.dav; nrfd = s.nrfd; ndac = s.ndac; eoi = sender; srq = s.srq }

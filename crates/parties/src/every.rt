@@ -1,9 +1,10 @@
-// The party at a place, and the loops over every party.
-ghost use Rattle.std.specs.Prelude.{◌≡◌, ◌||◌, ◌≤◌, ◌<◌, set};
-ghost use Rattle.party.specs.Settling.{clear_drops};
-ghost use Rattle.parties.specs.Places.{at, each, total, within, slot, changed, is_found};
+// The party at a place, and the loops over every party. The array and the count beside it are the bus's own two fields,
+// in the form that document 01 names.
+ghost use Rattle.std.specs.Prelude.{◌≡◌, ◌≤◌, ◌<◌, set};
+ghost use Rattle.party.specs.Settling.{clear_drops, attended, settled, cleared};
+ghost use Rattle.parties.specs.Places.{at, each, total, within, slot};
+ghost use Rattle.party.specs.declared.Party.{Party};
 
-use crate::{Change, Found};
 use party::{Party, Place};
 
 // How many of the fifteen places have parties.
@@ -41,61 +42,66 @@ pub fn with_party(ps: [Party; 15], p: Place, q: Party) -> [Party; 15]
     ps
 }
 
-// 'or' of two tests, both of which are made.
-pub fn or(a: bool, b: bool) -> bool
-    ensures { result ≡ (a || b) }
-{
-    if a { true } else { b }
+// What some calls do to every party.
+pub trait Change: Copy {
+    ghost changed: { Self → Party → Party };
+
+    fn changed(self, p: Party) -> Party
+        ensures { result ≡ changed self p };
 }
 
-impl Found {
-    pub fn is_found(self) -> bool
-        ensures { result ≡ is_found self }
-    {
-        match self {
-            Found::Nowhere => false,
-            Found::At(_) => true,
-        }
+// Settling, with ATN as the call left it.
+#[derive(Clone, Copy)]
+pub struct Settle(pub bool);
+
+// Attention with ATN as it then is, and then settling.
+#[derive(Clone, Copy)]
+pub struct Attend(pub bool);
+
+// The first part of an interface clear.
+#[derive(Clone, Copy)]
+pub struct Clear;
+
+impl Change for Settle {
+    ghost changed = { λ c p. settled c.0 p };
+
+    fn changed(self, p: Party) -> Party {
+        p.settled(self.0)
     }
 }
 
-// A change of one party.
-fn changed(c: Change, p: Party) -> Party
-    ensures { result ≡ changed c p }
-{
-    match c {
-        Change::Attend(atn) => p.attended(atn).settled(atn),
-        Change::Clear => p.cleared(),
+impl Change for Attend {
+    ghost changed = { λ c p. settled c.0 (attended c.0 p) };
+
+    fn changed(self, p: Party) -> Party {
+        p.attended(self.0).settled(self.0)
+    }
+}
+
+impl Change for Clear {
+    ghost changed = { λ _ p. cleared p };
+
+    fn changed(self, p: Party) -> Party {
+        p.cleared()
     }
 }
 
 // Every party changed.
-pub fn change_all(ps: [Party; 15], count: u8, c: Change) -> [Party; 15]
-    ensures { result ≡ each count (changed c) ps }
+pub fn change_all<C: Change>(ps: &mut [Party; 15], count: u8, c: C)
+    ensures { ps.new ≡ each count (C.changed c) ps.old }
 {
-    let mut out = ps;
-    let n = within(count);
-    let mut k: usize = 0;
-    while k < n {
-        let p = out[k];
-        let q = changed(c, p);
-        out[k] = q;
-        k = k + 1;
+    for p in &mut ps[..within(count)] {
+        *p = c.changed(*p);
     }
-    out
 }
 
 // The bytes that an interface clear takes from the active party.
 pub fn clear_drops(ps: [Party; 15], count: u8) -> u8
     ensures { (result ≡ total count clear_drops ps) × (result ≤ 15) }
 {
-    let mut sum: u8 = 0;
-    let n = within(count);
-    let mut k: usize = 0;
-    while k < n {
-        let p = ps[k];
-        sum = sum + p.clear_drops();
-        k = k + 1;
+    let mut sum = 0;
+    for p in &ps[..within(count)] {
+        sum += p.clear_drops();
     }
     sum
 }

@@ -10,38 +10,25 @@ pub mod every;
 pub mod polling;
 pub mod sweeping;
 
-// The six lines of the bus, true where driven.
+// One thing for each of the six lines of the bus.
 #[derive(Clone, Copy)]
-pub struct Lines {
-    pub atn: bool,
-    pub dav: bool,
-    pub nrfd: bool,
-    pub ndac: bool,
-    pub eoi: bool,
-    pub srq: bool,
+pub struct EachLine<T> {
+    pub atn: T,
+    pub dav: T,
+    pub nrfd: T,
+    pub ndac: T,
+    pub eoi: T,
+    pub srq: T,
 }
+
+// True where driven.
+pub type Lines = EachLine<bool>;
 
 // The parties that drive each line, as sixteen bits, one a party, party 0 lowest.
-#[derive(Clone, Copy)]
-pub struct Masks {
-    pub atn: u16,
-    pub dav: u16,
-    pub nrfd: u16,
-    pub ndac: u16,
-    pub eoi: u16,
-    pub srq: u16,
-}
+pub type Masks = EachLine<u16>;
 
 // How many parties drive each line.
-#[derive(Clone, Copy)]
-pub struct Counts {
-    pub atn: u32,
-    pub dav: u32,
-    pub nrfd: u32,
-    pub ndac: u32,
-    pub eoi: u32,
-    pub srq: u32,
-}
+pub type Counts = EachLine<u32>;
 
 // What one pass over the parties finds: who drives each line that a party's state decides, and who talks, as masks.
 #[derive(Clone, Copy)]
@@ -54,25 +41,11 @@ pub struct Sweep {
     pub talk: u16,
 }
 
-// The place of a party that was looked for.
-#[derive(Clone, Copy)]
-pub enum Found {
-    Nowhere,
-    At(Place),
-}
-
 // What a call is told of the parties: the lines, and the first party other than its own that talks.
 #[derive(Clone, Copy)]
 pub struct Scan {
     pub lines: Lines,
-    pub talker: Found,
-}
-
-// What some calls do to every party: attention and then settling, or the first part of an interface clear.
-#[derive(Clone, Copy)]
-pub enum Change {
-    Attend(bool),
-    Clear,
+    pub talker: Option<Place>,
 }
 
 // The weight of a line in the lines answer.

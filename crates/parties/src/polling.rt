@@ -8,16 +8,13 @@ use crate::every::within;
 use crate::sweeping::{has_driver, pushed};
 use party::Party;
 
-// Who answers on a line, as a mask.
+// Who answers on a line, as a mask. The array comes with its count, as the definition has them.
 fn answering(ps: [Party; 15], count: u8, line: u8) -> u16
     ensures { result ≡ mask (within count) (λ i. answers_poll line (at ps i)) }
 {
-    let mut m: u16 = 0;
-    let mut k = within(count);
-    while 0 < k {
-        k = k - 1;
-        let p = ps[k];
-        m = pushed(m, p.answers_poll(line));
+    let mut m = 0;
+    for k in (0..within(count)).rev() {
+        m = pushed(m, ps[k].answers_poll(line));
     }
     m
 }
@@ -26,11 +23,9 @@ fn answering(ps: [Party; 15], count: u8, line: u8) -> u16
 pub fn poll_byte(ps: [Party; 15], count: u8) -> u8
     ensures { result ≡ poll_byte count ps }
 {
-    let mut m: u16 = 0;
-    let mut k: u8 = 8;
-    while 0 < k {
-        k = k - 1;
-        m = pushed(m, has_driver(answering(ps, count, k)));
+    let mut m = 0;
+    for line in (0..8).rev() {
+        m = pushed(m, has_driver(answering(ps, count, line)));
     }
     (m % 256) as u8
 }

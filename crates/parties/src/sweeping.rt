@@ -6,7 +6,7 @@ ghost use Rattle.parties.specs.Lines.{mask, has_driver, counts_of};
 ghost use Rattle.parties.specs.Sweeping.{sweep_of, pushed, swept_by, without, first_of, told, masks_with};
 
 use crate::every::within;
-use crate::{Counts, Found, Lines, Masks, Scan, Sweep};
+use crate::{Counts, EachLine, Masks, Scan, Sweep};
 use party::{Party, Place};
 
 // A mask with one party more, below those that it has.
@@ -34,13 +34,11 @@ pub fn bit_of(p: Place, count: u8) -> u16
 fn without(m: u16, i: usize) -> u16
     ensures { result ≡ without m i }
 {
-    if i < 15 {
-        let shift = i as u16;
-        if (m >> shift) % 2 == 1 {
-            return m - (1u16 << shift);
-        }
+    if i < 15 && (m >> i) % 2 == 1 {
+        m - (1 << i)
+    } else {
+        m
     }
-    m
 }
 
 // The mask where a test holds, and nobody's where it does not.
@@ -51,13 +49,10 @@ pub fn only_if(on: bool, m: u16) -> u16
 }
 
 // The lowest place of a mask.
-fn first_of(m: u16) -> Found
+fn first_of(m: u16) -> Option<Place>
     ensures { result ≡ first_of m }
 {
-    if m == 0 {
-        return Found::Nowhere;
-    }
-    Found::At(Place((u16::trailing_zeros(m) % 256) as u8))
+    (m != 0).then_some(Place((m.trailing_zeros() % 256) as u8))
 }
 
 impl Sweep {
@@ -75,14 +70,13 @@ impl Sweep {
     fn swept_by(self, p: Party) -> Sweep
         ensures { result ≡ swept_by self p }
     {
-        let role = p.role;
         Sweep {
             atn: pushed(self.atn, p.is_active()),
             dav: pushed(self.dav, p.drives_dav()),
             nrfd: pushed(self.nrfd, p.drives_nrfd()),
             ndac: pushed(self.ndac, p.drives_ndac()),
             srq: pushed(self.srq, p.drives_srq()),
-            talk: pushed(self.talk, role.talk),
+            talk: pushed(self.talk, p.role.talk),
         }
     }
 
@@ -90,7 +84,7 @@ impl Sweep {
     pub fn told(self, i: usize, eoi: bool) -> Scan
         ensures { result ≡ told self i eoi }
     {
-        let lines = Lines {
+        let lines = EachLine {
             atn: has_driver(self.atn),
             dav: has_driver(self.dav),
             nrfd: has_driver(self.nrfd),
@@ -108,7 +102,7 @@ impl Sweep {
     pub fn masks_with(self, sender: u16) -> Masks
         ensures { result ≡ masks_with self sender }
     {
-        Masks {
+        EachLine {
             atn: self.atn,
             dav: self.dav,
             nrfd: self.nrfd,
@@ -119,16 +113,14 @@ impl Sweep {
     }
 }
 
-// The pass: from the last party to the first, all masks together.
+// The pass: from the last party to the first, all masks together. The array comes with its count, as the definition has
+// them.
 pub fn sweep_of(ps: [Party; 15], count: u8) -> Sweep
     ensures { result ≡ sweep_of (within count) ps }
 {
     let mut s = Sweep::NONE;
-    let mut k = within(count);
-    while 0 < k {
-        k = k - 1;
-        let p = ps[k];
-        s = s.swept_by(p);
+    for k in (0..within(count)).rev() {
+        s = s.swept_by(ps[k]);
     }
     s
 }
@@ -138,13 +130,13 @@ impl Masks {
     pub fn counts(self) -> Counts
         ensures { result ≡ counts_of self }
     {
-        Counts {
-            atn: u16::count_ones(self.atn),
-            dav: u16::count_ones(self.dav),
-            nrfd: u16::count_ones(self.nrfd),
-            ndac: u16::count_ones(self.ndac),
-            eoi: u16::count_ones(self.eoi),
-            srq: u16::count_ones(self.srq),
+        EachLine {
+            atn: self.atn.count_ones(),
+            dav: self.dav.count_ones(),
+            nrfd: self.nrfd.count_ones(),
+            ndac: self.ndac.count_ones(),
+            eoi: self.eoi.count_ones(),
+            srq: self.srq.count_ones(),
         }
     }
 }

@@ -4,9 +4,5 @@ use Rattle.parties.proofs.Sweeps.{swept_down}
 use Rattle.parties.proofs.sweeping.sweep_of.Goals as goal
 
 pub loop-k-preserved : goal.loop-k-preserved
-loop-k-preserved c = (
-  omega arith,
-  c.loop-k.invariant.1,
-  swept_down (within c.args.count) c.loop-k.k c.args.ps (omega arith) c.loop-k.invariant.0
-      c.loop-k.invariant.1 c.loop-k.invariant.2 c.swept_by-s.ensures,
-)
+loop-k-preserved c = swept_down (within c.args.count) c.loop-k.k c.args.ps (omega arith) (omega arith)
+    (omega arith) c.loop-k.invariant c.swept_by-s.ensures
