@@ -1,7 +1,7 @@
 -- The laws of the loops over the names of a build: a search through a list, and the filling of the places.
 -- Assumes nothing.
 use mathlib.Core.Path.{◌≡◌, refl, sym, ap, ◌∙◌}
-use mathlib.Core.Bool.{Bool, true, false, ◌||◌}
+use mathlib.Core.Bool.{Bool, false, ◌||◌, or_assoc, or-false}
 use mathlib.Core.List.{List, [], ◌∷◌}
 use Prim.Native.Nat.{ℕ, zero, suc, ◌+◌, ◌≤◌, ◌<◌}
 use native.Mathlib.Numerals.{add-one}
@@ -13,7 +13,6 @@ use Rattle.message.specs.Meaning.{address}
 use Rattle.names.specs.declared.Name.{Name}
 use Rattle.names.specs.Names.{plain}
 use Rattle.party.specs.Parts.{built_party}
-use Rattle.parties.proofs.Loops.{or_assoc}
 use Rattle.party.specs.declared.Party.{Party}
 use Rattle.addresses.specs.Addresses.{secondary_given, names, placed}
 
@@ -46,10 +45,6 @@ name_both (a ∷ xs) [] i d h l = absurd (not-suc-le-zero l)
 name_both (a ∷ xs) (s ∷ ss) zero d h l = refl
 name_both (a ∷ xs) (s ∷ ss) (suc i) d h l = name_both xs ss i d (le_of_suc-le-suc h) (le_of_suc-le-suc l)
 
-or_false : (x : Bool) → (x || false) ≡ x
-or_false true = refl
-or_false false = refl
-
 -- g looks through a list: h of each element and what follows it. Before turn i the loop has f, and f or what is left to
 -- find is all that there is to find.
 module _ (g : List Name → Bool) (h : Name → List Name → Bool) (none : g [] ≡ false)
@@ -58,14 +53,14 @@ module _ (g : List Name → Bool) (h : Name → List Name → Bool) (none : g []
   pub scan_turn : (d : Name) (q : Bool) → i < length l → q ≡ (f || h (get_or l i d) (drop (i + 1) l))
       → (q || g (drop (i + 1) l)) ≡ all
   scan_turn d q m e = ap (λ (x : Bool). x || g (drop (i + 1) l)) e
-      ∙ sym (or_assoc f (h (get_or l i d) (drop (i + 1) l)) (g (drop (i + 1) l))) ∙ ap (λ (x : Bool). f || x) (sym rest)
+      ∙ or_assoc f (h (get_or l i d) (drop (i + 1) l)) (g (drop (i + 1) l)) ∙ ap (λ (x : Bool). f || x) (sym rest)
       ∙ inv
     where
       rest : g (drop i l) ≡ (h (get_or l i d) (drop (i + 1) l) || g (drop (i + 1) l))
       rest = rw (add-one i) (ap g (drop-cons l i d m) ∙ more (get_or l i d) (drop (suc i) l))
 
   pub scan_done : length l ≤ i → f ≡ all
-  scan_done m = sym (or_false f) ∙ ap (λ (x : Bool). f || x) (sym none ∙ sym (ap g (drop_of_length-le l m))) ∙ inv
+  scan_done m = sym (or-false f) ∙ ap (λ (x : Bool). f || x) (sym none ∙ sym (ap g (drop_of_length-le l m))) ∙ inv
 
 -- the places: one name more, and as many as there are places
 placed_suc : (n : ℕ) (xs : List Name) (k : ℕ) (d : Name) → k < length xs → k < n

@@ -1,9 +1,9 @@
 -- The addresses of a build (document 01, "The bus record" and the refusal BADBUILD; document 02, Q-3).
 -- Assumes nothing.
 use Rattle.std.specs.Prelude.{ℕ, zero, suc, Bool, false, not, cond, ◌||◌, List, [], ◌∷◌, ltb, eqb, length}
+use Rattle.std.specs.Prelude.{Option, Some, None}
 use Rattle.message.specs.Meaning.{address, secondary}
-use Rattle.names.specs.declared.Secondary.{Secondary}
-use Rattle.names.specs.declared.Secondary.TheVariants.{Absent, Given}
+use Rattle.message.specs.declared.SecondaryAddress.{SecondaryAddress}
 use Rattle.names.specs.declared.Name.{Name}
 use Rattle.names.specs.Names.{plain, is_over30, clashes}
 use Rattle.party.specs.declared.Place.{Place}
@@ -11,8 +11,8 @@ use Rattle.party.specs.declared.Party.{Party}
 use Rattle.party.specs.Parts.{idle, built_party}
 
 -- A secondary as a host gives it: 255 says that there is none.
-abbrev pub secondary_given : ℕ → Secondary
-secondary_given s = cond (eqb s 255) Absent (Given (secondary s))
+abbrev pub secondary_given : ℕ → Option SecondaryAddress
+secondary_given s = cond (eqb s 255) None (Some (secondary s))
 
 -- The names that a list of addresses and one of secondaries give; where the second is empty nobody has a secondary.
 abbrev pub names : List ℕ → List ℕ → List Name

@@ -8,108 +8,97 @@ ghost use Rattle.addresses.specs.Addresses.{secondary_given, names, go_together}
 ghost use Rattle.addresses.specs.Addresses.{any_over30, clashes_with, two_clash, bad_build};
 
 use message::{Address, SecondaryAddress};
-use names::{Name, Secondary};
-use parties::every::or;
+use names::Name;
 use party::Place;
 
-// What stands for no secondary in a list of them.
+// What stands for no secondary in a list of them, which is the hosts' form, in C too.
 pub const NO_SECONDARY: u8 = 255;
 
-fn secondary_given(s: u8) -> Secondary
+// What a host gives of the parties of a build, in two lists: where the second has ended nobody has a secondary.
+#[derive(Clone, Copy)]
+pub struct Roster<'a> {
+    pub addresses: &'a [u8],
+    pub secondaries: &'a [u8],
+}
+
+fn secondary_given(s: u8) -> Option<SecondaryAddress>
     ensures { result ≡ secondary_given s }
 {
-    if s == NO_SECONDARY {
-        return Secondary::Absent;
-    }
-    Secondary::Given(SecondaryAddress(s))
+    (s != NO_SECONDARY).then_some(SecondaryAddress(s))
 }
 
-// The name of party i, and the idle party's where there is none.
-pub fn name_at(addresses: &[u8], secondaries: &[u8], i: usize) -> Name
-    ensures { result ≡ get_or (names addresses.now secondaries.now) i (plain (address 0)) }
-{
-    if addresses.len() <= i {
-        return Name::IDLE;
-    }
-    let address = Address(addresses[i]);
-    if secondaries.len() <= i {
-        return Name {
+impl<'a> Roster<'a> {
+    // The name of party i, and the idle party's where there is none.
+    pub fn name_at(self, i: usize) -> Name
+        ensures { result ≡ get_or (names self.entry.addresses.now self.entry.secondaries.now) i (plain (address 0)) }
+    {
+        if self.addresses.len() <= i {
+            return Name::IDLE;
+        }
+        let address = Address(self.addresses[i]);
+        if self.secondaries.len() <= i {
+            return Name {
+                address,
+                secondary: None,
+            };
+        }
+        Name {
             address,
-            secondary: Secondary::Absent,
-        };
+            secondary: secondary_given(self.secondaries[i]),
+        }
     }
-    Name {
-        address,
-        secondary: secondary_given(secondaries[i]),
-    }
-}
 
-fn any_over_30(addresses: &[u8], secondaries: &[u8]) -> bool
-    ensures { result ≡ any_over30 (names addresses.now secondaries.now) }
-{
-    let mut found = false;
-    let mut i: usize = 0;
-    while i < addresses.len() {
-        let name = name_at(addresses, secondaries, i);
-        found = or(found, name.is_over_30());
-        i = i + 1;
+    fn any_over_30(self) -> bool
+        ensures { result ≡ any_over30 (names self.entry.addresses.now self.entry.secondaries.now) }
+    {
+        let mut found = false;
+        for i in 0..self.addresses.len() {
+            found |= self.name_at(i).is_over_30();
+        }
+        found
     }
-    found
-}
 
-// May no bus have a party of this name beside one of those from place `from` on?
-fn clashes_with(n: Name, addresses: &[u8], secondaries: &[u8], from: usize) -> bool
-    ensures { result ≡ clashes_with n (drop from (names addresses.now secondaries.now)) }
-{
-    let mut found = false;
-    let mut i = from;
-    while i < addresses.len() {
-        found = or(found, n.clashes(name_at(addresses, secondaries, i)));
-        i = i + 1;
+    // May no bus have a party of this name beside one of those from place `from` on?
+    fn clashes_with(self, n: Name, from: usize) -> bool
+        ensures { result ≡ clashes_with n (drop from (names self.entry.addresses.now self.entry.secondaries.now)) }
+    {
+        let mut found = false;
+        for i in from..self.addresses.len() {
+            found |= n.clashes(self.name_at(i));
+        }
+        found
     }
-    found
-}
 
-fn two_clash(addresses: &[u8], secondaries: &[u8]) -> bool
-    ensures { result ≡ two_clash (names addresses.now secondaries.now) }
-{
-    let mut found = false;
-    let mut i: usize = 0;
-    while i < addresses.len() {
-        let name = name_at(addresses, secondaries, i);
-        i = i + 1;
-        found = or(found, clashes_with(name, addresses, secondaries, i));
+    fn two_clash(self) -> bool
+        ensures { result ≡ two_clash (names self.entry.addresses.now self.entry.secondaries.now) }
+    {
+        let mut found = false;
+        for i in 0..self.addresses.len() {
+            found |= self.clashes_with(self.name_at(i), i + 1);
+        }
+        found
     }
-    found
-}
 
-// A list of secondaries is empty, or as long as the addresses.
-pub fn go_together(addresses: &[u8], secondaries: &[u8]) -> bool
-    ensures { result ≡ go_together addresses.now secondaries.now }
-{
-    if secondaries.len() == 0 {
-        return true;
+    // A list of secondaries is empty, or as long as the addresses.
+    #[tactic(auto, unfolding(crate::specs::Addresses::go_together))]
+    pub fn go_together(self) -> bool
+        ensures { result ≡ go_together self.entry.addresses.now self.entry.secondaries.now }
+    {
+        self.secondaries.is_empty() || self.secondaries.len() == self.addresses.len()
     }
-    secondaries.len() == addresses.len()
-}
 
-// Is this no bus to be built?
-pub fn bad_build(addresses: &[u8], secondaries: &[u8], system: Place) -> bool
-    ensures { result ≡ bad_build (names addresses.now secondaries.now) system }
-{
-    let n = addresses.len();
-    if n == 0 {
-        return true;
+    // Is this no bus to be built?
+    pub fn bad_build(self, system: Place) -> bool
+        ensures { result ≡ bad_build (names self.entry.addresses.now self.entry.secondaries.now) system }
+    {
+        let n = self.addresses.len();
+        if n == 0 || 15 < n {
+            return true;
+        }
+        if self.any_over_30() || self.two_clash() {
+            return true;
+        }
+        let has_system = (system.0 as usize) < n;
+        !has_system
     }
-    if 15 < n {
-        return true;
-    }
-    if any_over_30(addresses, secondaries) {
-        return true;
-    }
-    if two_clash(addresses, secondaries) {
-        return true;
-    }
-    let i = system.0 as usize;
-    if i < n { false } else { true }
 }
