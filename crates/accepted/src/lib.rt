@@ -7,6 +7,7 @@ ghost use Rattle.accepted.specs.Accepted.{step, acted, effect_of};
 use acceptor_step::acceptor_step;
 use effect::calls::is_on;
 use effect::{Act, Call, Effect, View};
+use offer::Byte;
 use party::Control;
 use source_step::source_step;
 
@@ -14,9 +15,7 @@ use source_step::source_step;
 fn step(v: View) -> Effect
     ensures { result ≡ step v }
 {
-    let l = v.lines;
-    let p = v.party;
-    if p.is_source(l.atn) {
+    if v.party.is_source(v.lines.atn) {
         source_step(v)
     } else {
         acceptor_step(v)
@@ -27,39 +26,40 @@ fn step(v: View) -> Effect
 fn acted(a: Act, v: View) -> Effect
     ensures { result ≡ acted v a }
 {
-    let st = v.standing;
-    match a {
-        Act::Step => step(v),
-        Act::Write(byte, end) => host_calls::write(byte, is_on(end), v).with_standing(st),
-        Act::Read => host_calls::read(v).with_standing(st),
-        Act::PollRegister(value) => host_calls::poll_register(value, v).with_standing(st),
-        Act::ListenOnly(on) => host_calls::listen_only(is_on(on), v).with_standing(st),
-        Act::TalkOnly(on) => host_calls::talk_only(is_on(on), v).with_standing(st),
-        Act::TakeControl => host_calls::controlled(Control::Active, v).with_standing(st),
-        Act::GoToStandby => host_calls::controlled(Control::Standby, v).with_standing(st),
-        Act::InterfaceClear => host_calls::clear(v).with_standing(st),
-        Act::Reset => host_calls::reset(v).with_standing(st),
-        Act::Drop => host_calls::drop_held(v).with_standing(st),
-        Act::SecondRequest(on) => host_calls::second_request(is_on(on), v).with_standing(st),
-        Act::DataOut(byte) => host_calls::data_out(byte, v).with_standing(st),
-        Act::MarkEnd => host_calls::mark_end(v).with_standing(st),
-        Act::BusStatus => host_calls::tell(v).with_standing(st),
-        Act::DoNothing => v.stay(),
-        // Never accepted.
-        Act::NoRegister => v.stay(),
-        Act::OwnStatus(on) => host_calls::own_status(is_on(on), v).with_standing(st),
-        Act::ParallelPoll => host_calls::parallel_poll(v).with_standing(st),
-    }
+    let outcome = match a {
+        Act::Step => return step(v),
+        // The second is never accepted.
+        Act::DoNothing | Act::NoRegister => return v.stay(),
+        Act::Write(value, end) => {
+            let end = is_on(end);
+            host_calls::write(Byte { value, end }, v)
+        }
+        Act::Read => host_calls::read(v),
+        Act::PollRegister(value) => host_calls::poll_register(value, v),
+        Act::ListenOnly(on) => host_calls::listen_only(is_on(on), v),
+        Act::TalkOnly(on) => host_calls::talk_only(is_on(on), v),
+        Act::TakeControl => host_calls::controlled(Control::Active, v),
+        Act::GoToStandby => host_calls::controlled(Control::Standby, v),
+        Act::InterfaceClear => host_calls::clear(v),
+        Act::Reset => host_calls::reset(v),
+        Act::Drop => host_calls::drop_held(v),
+        Act::SecondRequest(on) => host_calls::second_request(is_on(on), v),
+        Act::DataOut(byte) => host_calls::data_out(byte, v),
+        Act::MarkEnd => host_calls::mark_end(v),
+        Act::BusStatus => host_calls::tell(v),
+        Act::OwnStatus(on) => host_calls::own_status(is_on(on), v),
+        Act::ParallelPoll => host_calls::parallel_poll(v),
+    };
+    outcome.with_standing(v.standing)
 }
 
 // The effect of an accepted call.
 pub fn effect_of(c: Call, v: View) -> Effect
     ensures { result ≡ effect_of v c }
 {
-    let st = v.standing;
     match c {
         Call::Of(_, a) => acted(a, v),
-        Call::Lines => host_calls::tell(v).with_standing(st),
+        Call::Lines => host_calls::tell(v).with_standing(v.standing),
         Call::Drivers => v.stay(),
     }
 }

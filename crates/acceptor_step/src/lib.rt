@@ -7,53 +7,39 @@ ghost use Rattle.acceptor_step.specs.AcceptorStep.{fills, hears, takes, readies,
 use effect::{Effect, Said, Standing, View};
 use event::Event;
 use message::meaning_of;
-use offer::Slot;
+use offer::Byte;
 use party::Acceptor;
 use role::hearing::hear_event;
 
 // Data is taken into data-in.
-fn fills(byte: u8, end: bool, v: View) -> Effect
-    ensures { result ≡ fills byte end v }
+fn fills(byte: Byte, v: View) -> Effect
+    ensures { result ≡ fills byte.value byte.end v }
 {
-    let p = v.party;
-    let st = v.standing;
-    let party = p
-        .with_input(Slot::Full(byte, end))
-        .with_acceptor(Acceptor::Acds);
-    Effect::does(Said::say(Event::Took, byte, end, 0), party, st)
+    let party = v.party.with_input(Some(byte)).with_acceptor(Acceptor::Acds);
+    Effect::does(
+        Said::say(Event::Took, byte.value, byte.end, 0),
+        party,
+        v.standing,
+    )
 }
 
 // A command is taken by hearing it.
-fn hears(byte: u8, end: bool, v: View) -> Effect
-    ensures { result ≡ hears byte end v }
+fn hears(byte: Byte, v: View) -> Effect
+    ensures { result ≡ hears byte.value byte.end v }
 {
-    let p = v.party;
-    let st = v.standing;
-    let role = p.role;
-    let event = hear_event(meaning_of(byte), role.listen);
-    let said = Said::say(event, byte, end, 0);
-    Effect::does(said, p.heard(byte).with_acceptor(Acceptor::Acds), st)
+    let event = hear_event(meaning_of(byte.value), v.party.role.listen);
+    let party = v.party.heard(byte.value).with_acceptor(Acceptor::Acds);
+    Effect::does(Said::say(event, byte.value, byte.end, 0), party, v.standing)
 }
 
 // DAV is true: what stands is taken.
-fn takes(st: Standing, v: View) -> Effect
+fn takes(st: Option<Standing>, v: View) -> Effect
     ensures { result ≡ takes st v }
 {
-    let l = v.lines;
     match st {
-        Standing::Nothing => v.stay(),
-        Standing::Byte {
-            sender: _,
-            kind: _,
-            value,
-            end,
-        } => {
-            if l.atn {
-                hears(value, end, v)
-            } else {
-                fills(value, end, v)
-            }
-        }
+        None => v.stay(),
+        Some(Standing { value, end, .. }) if v.lines.atn => hears(Byte { value, end }, v),
+        Some(Standing { value, end, .. }) => fills(Byte { value, end }, v),
     }
 }
 
@@ -61,34 +47,24 @@ fn takes(st: Standing, v: View) -> Effect
 fn readies(full: bool, v: View) -> Effect
     ensures { result ≡ readies full v }
 {
-    let l = v.lines;
-    let p = v.party;
-    if l.atn {
-        v.moved(p.with_acceptor(Acceptor::Acrs))
-    } else if full {
-        v.stay()
+    if v.lines.atn || !full {
+        v.moved(v.party.with_acceptor(Acceptor::Acrs))
     } else {
-        v.moved(p.with_acceptor(Acceptor::Acrs))
+        v.stay()
     }
 }
 
 pub fn acceptor_step(v: View) -> Effect
     ensures { result ≡ acceptor_step v }
 {
-    let l = v.lines;
-    let st = v.standing;
     let p = v.party;
-    let acceptor = p.acceptor;
-    let input = p.input;
-    match acceptor {
+    match p.acceptor {
         Acceptor::Aids => v.stay(),
-        Acceptor::Anrs => readies(input.is_full(), v),
-        Acceptor::Acrs => if l.dav { takes(st, v) } else { v.stay() },
+        Acceptor::Anrs => readies(p.input.is_some(), v),
+        Acceptor::Acrs if v.lines.dav => takes(v.standing, v),
+        Acceptor::Acrs => v.stay(),
         Acceptor::Acds => v.moved(p.with_acceptor(Acceptor::Awns)),
-        Acceptor::Awns => if l.dav {
-            v.stay()
-        } else {
-            v.moved(p.with_acceptor(Acceptor::Anrs))
-        },
+        Acceptor::Awns if v.lines.dav => v.stay(),
+        Acceptor::Awns => v.moved(p.with_acceptor(Acceptor::Anrs)),
     }
 }

@@ -1,8 +1,8 @@
 -- A call: the party that it names, its switch, and the numbers of acts and of refusals.
 -- Assumes nothing.
-use Rattle.std.specs.Prelude.{ℕ, Bool, eqb}
+use Rattle.std.specs.Prelude.{ℕ, Bool, eqb, Ok, Err, is_ok}
 use Rattle.parties.specs.Places.{place}
-use Rattle.effect.specs.Types.{Place, Call, Refusal, Act}
+use Rattle.effect.specs.Types.{Place, Call, Refusal, Verdict, Act}
 use Rattle.effect.specs.Types.call_of
 use Rattle.effect.specs.Types.ruling
 use Rattle.effect.specs.Types.act_of
@@ -16,9 +16,8 @@ place_of call_of.Drivers = place 0
 abbrev pub is_on : ℕ → Bool
 is_on x = eqb x 1
 
--- The table of refusals; 0 is no refusal. Document 02, Q-6: 11 NOREG.
+-- The table of refusals. Document 02, Q-6: 11 NOREG.
 abbrev pub refusal_number : Refusal → ℕ
-refusal_number ruling.Accepted = 0
 refusal_number ruling.NoParty = 1
 refusal_number ruling.BadBuild = 2
 refusal_number ruling.BadValue = 3
@@ -31,8 +30,13 @@ refusal_number ruling.Empty = 9
 refusal_number ruling.Record = 10
 refusal_number ruling.NoReg = 11
 
-abbrev pub is_accepted : Refusal → Bool
-is_accepted r = eqb (refusal_number r) 0
+-- "0 is no refusal": what an accepted call is answered with.
+abbrev pub verdict_number : Verdict → ℕ
+verdict_number (Ok x) = 0
+verdict_number (Err r) = refusal_number r
+
+abbrev pub is_accepted : Verdict → Bool
+is_accepted v = is_ok v
 
 -- "Operations, decimal": those that name a party. Document 02, Q-5: 13 second request. From 14 on they are what the
 -- chip's registers ask for (Q-6) and the calls of the parallel poll (Q-8), and no operation of a script.

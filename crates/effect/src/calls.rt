@@ -1,35 +1,25 @@
-// A call and its refusal: the party that it names, its switch, the refusal's number, and whether it was accepted.
+// A call and its refusal: the party that it names, its switch, and the number of what it meets.
 ghost use Rattle.std.specs.Prelude.{◌≡◌};
-ghost use Rattle.effect.specs.Calls.{refusal_number, is_accepted, place_of, is_on};
+ghost use Rattle.effect.specs.Calls.{refusal_number, verdict_number, place_of, is_on};
 
-use crate::{Call, Refusal};
+use crate::{Call, Refusal, Verdict};
 use party::Place;
 
 impl Refusal {
-    // 0 for an accepted call.
     pub fn number(self) -> u8
         ensures { result ≡ refusal_number self }
     {
-        match self {
-            Refusal::Accepted => 0,
-            Refusal::NoParty => 1,
-            Refusal::BadBuild => 2,
-            Refusal::BadValue => 3,
-            Refusal::Role => 4,
-            Refusal::Attention => 5,
-            Refusal::Talker => 6,
-            Refusal::Standing => 7,
-            Refusal::Full => 8,
-            Refusal::Empty => 9,
-            Refusal::Record => 10,
-            Refusal::NoReg => 11,
-        }
+        self as u8
     }
+}
 
-    pub fn is_accepted(self) -> bool
-        ensures { result ≡ is_accepted self }
-    {
-        self.number() == 0
+// The refusal's number, and 0 for an accepted call.
+pub fn verdict_number(v: Verdict) -> u8
+    ensures { result ≡ verdict_number v }
+{
+    match v {
+        Ok(()) => 0,
+        Err(r) => r.number(),
     }
 }
 
@@ -40,8 +30,7 @@ impl Call {
     {
         match self {
             Call::Of(p, _) => p,
-            Call::Lines => Place(0),
-            Call::Drivers => Place(0),
+            Call::Lines | Call::Drivers => Place(0),
         }
     }
 }

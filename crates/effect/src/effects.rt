@@ -21,7 +21,7 @@ impl Said {
 
 impl Effect {
     // Settling follows, and no more.
-    pub fn does(said: Said, party: Party, standing: Standing) -> Effect
+    pub fn does(said: Said, party: Party, standing: Option<Standing>) -> Effect
         ensures { result ≡ does said party standing }
     {
         Effect {
@@ -38,17 +38,18 @@ impl View {
     pub fn stay(self) -> Effect
         ensures { result ≡ stay self }
     {
-        let party = self.party;
-        let standing = self.standing;
-        Effect::does(Said::say(Event::None, 0, false, 0), party, standing)
+        Effect::does(
+            Said::say(Event::None, 0, false, 0),
+            self.party,
+            self.standing,
+        )
     }
 
     // The party has moved, and no more is to be said.
     pub fn moved(self, party: Party) -> Effect
         ensures { result ≡ moved self party }
     {
-        let standing = self.standing;
-        Effect::does(Said::say(Event::Moved, 0, false, 0), party, standing)
+        Effect::does(Said::say(Event::Moved, 0, false, 0), party, self.standing)
     }
 }
 
@@ -68,16 +69,11 @@ impl Outcome {
     pub fn then(self, after: After) -> Outcome
         ensures { result ≡ then after self }
     {
-        let Outcome {
-            said,
-            after: _,
-            party,
-        } = self;
-        Outcome { said, after, party }
+        Outcome { after, ..self }
     }
 
-    // The effect on a bus on which this stands.
-    pub fn with_standing(self, standing: Standing) -> Effect
+    // The effect on a bus on which this stands. Another struct, so each field is named.
+    pub fn with_standing(self, standing: Option<Standing>) -> Effect
         ensures { result ≡ with_standing standing self }
     {
         let Outcome { said, after, party } = self;

@@ -3,7 +3,7 @@
 
 use event::Event;
 use offer::Kind;
-use parties::{Found, Lines};
+use parties::Lines;
 use party::{Party, Place};
 
 pub mod calls;
@@ -12,21 +12,17 @@ pub mod stands;
 
 // Document 01's standing byte: its sender, kind, value and END. It stands exactly while its sender is in STRS.
 #[derive(Clone, Copy)]
-pub enum Standing {
-    Nothing,
-    Byte {
-        sender: Place,
-        kind: Kind,
-        value: u8,
-        end: bool,
-    },
+pub struct Standing {
+    pub sender: Place,
+    pub kind: Kind,
+    pub value: u8,
+    pub end: bool,
 }
 
-// Why a call was refused; specs/Calls.antt gives document 01's number for each.
+// Why a call was refused, with document 01's number for each.
 #[derive(Clone, Copy)]
 pub enum Refusal {
-    Accepted,
-    NoParty,
+    NoParty = 1,
     BadBuild,
     BadValue,
     Role,
@@ -39,7 +35,11 @@ pub enum Refusal {
     NoReg,
 }
 
-// What a host may ask of a party, with its arguments as they come: a byte, a switch or an END.
+// Whether a call was accepted.
+pub type Verdict = Result<(), Refusal>;
+
+// What a host may ask of a party, with its arguments as they come: a byte, a switch or an END. A number that is no
+// switch is refused with 3 only where the place has a party, so it stays a number up to `judge`.
 #[derive(Clone, Copy)]
 pub enum Act {
     Step,
@@ -55,7 +55,8 @@ pub enum Act {
     Drop,
     SecondRequest(u8),
     // What the chip's registers ask for beside these: the byte with END from the mark, the mark for the next one, the
-    // lines as its party reads them, what is accepted and does nothing, and what is not carried.
+    // lines as its party reads them, what is accepted and does nothing, and what is not carried: that is refused with
+    // 11, and with 1 before that, so it is an act like the others.
     DataOut(u8),
     MarkEnd,
     BusStatus,
@@ -74,7 +75,8 @@ pub enum Call {
     Drivers,
 }
 
-// What a call sees of the bus as it comes.
+// What a call sees of the bus as it comes. Where its place has no party, `party` is some party: a call that names the
+// place is refused before it is read, and lines and drivers hand it back as it was. So an Option is no plainer.
 #[derive(Clone, Copy)]
 pub struct View {
     pub place: Place,
@@ -82,9 +84,9 @@ pub struct View {
     pub inside: bool,
     pub chief: bool,
     // The first other party that talks.
-    pub talker: Found,
+    pub talker: Option<Place>,
     pub lines: Lines,
-    pub standing: Standing,
+    pub standing: Option<Standing>,
     pub party: Party,
 }
 
@@ -122,5 +124,5 @@ pub struct Effect {
     pub said: Said,
     pub after: After,
     pub party: Party,
-    pub standing: Standing,
+    pub standing: Option<Standing>,
 }

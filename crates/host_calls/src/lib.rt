@@ -4,69 +4,61 @@
 ghost use Rattle.std.specs.Prelude.{◌≡◌};
 ghost use Rattle.host_calls.specs.HostCalls.{write, read, requested, poll_register, second_request, listen_acceptor};
 ghost use Rattle.host_calls.specs.HostCalls.{listen_only, talk_only, controlled, drop_held, reset_acceptor, reset};
-ghost use Rattle.host_calls.specs.HostCalls.{clear, tell, marked_end, data_out, mark_end, own_status, parallel_poll};
+ghost use Rattle.host_calls.specs.HostCalls.{joining, clear, tell, marked_end, data_out, mark_end, own_status};
+ghost use Rattle.host_calls.specs.HostCalls.{parallel_poll};
 
 use effect::{After, Outcome, Said, View};
 use event::Event;
-use offer::Slot;
+use offer::Byte;
 use parties::Lines;
 use party::{Acceptor, Control, Party};
 use service::Request;
 
-pub fn write(byte: u8, end: bool, v: View) -> Outcome
-    ensures { result ≡ write byte end v }
+pub fn write(byte: Byte, v: View) -> Outcome
+    ensures { result ≡ write byte.value byte.end v }
 {
-    let p = v.party;
-    Outcome::quiet(0, p.with_held(Slot::Full(byte, end)))
+    Outcome::quiet(0, v.party.with_held(Some(byte)))
 }
 
 // The party with the mark for its next byte on or off.
 fn marked_end(on: bool, p: Party) -> Party
     ensures { result ≡ marked_end on p }
 {
-    let latches = p.latches;
-    p.with_latches(latches.with_feoi(on))
+    p.with_latches(p.latches.with_feoi(on))
 }
 
 // The byte with END from the mark, which is used up.
-pub fn data_out(byte: u8, v: View) -> Outcome
-    ensures { result ≡ data_out byte v }
+pub fn data_out(value: u8, v: View) -> Outcome
+    ensures { result ≡ data_out value v }
 {
-    let p = v.party;
-    let latches = p.latches;
-    Outcome::quiet(
-        0,
-        marked_end(false, p.with_held(Slot::Full(byte, latches.feoi))),
-    )
+    let end = v.party.latches.feoi;
+    let party = v.party.with_held(Some(Byte { value, end }));
+    Outcome::quiet(0, marked_end(false, party))
 }
 
 pub fn mark_end(v: View) -> Outcome
     ensures { result ≡ mark_end v }
 {
-    let p = v.party;
-    Outcome::quiet(0, marked_end(true, p))
+    Outcome::quiet(0, marked_end(true, v.party))
 }
 
 // The own status, for parallel polls.
 pub fn own_status(on: bool, v: View) -> Outcome
     ensures { result ≡ own_status on v }
 {
-    let p = v.party;
-    let latches = p.latches;
-    Outcome::quiet(0, p.with_latches(latches.with_ist(on)))
+    let latches = v.party.latches.with_ist(on);
+    Outcome::quiet(0, v.party.with_latches(latches))
 }
 
 pub fn read(v: View) -> Outcome
     ensures { result ≡ read v }
 {
-    let p = v.party;
-    let input = p.input;
-    match input {
-        Slot::Empty => Outcome::quiet(0, p),
-        Slot::Full(byte, end) => Outcome {
-            said: Said::say(Event::Read, byte, end, 0),
-            after: After::Settle,
-            party: p.with_input(Slot::Empty),
+    let quiet = Outcome::quiet(0, v.party.with_input(None));
+    match v.party.input {
+        None => quiet,
+        Some(byte) => Outcome {
+            said: Said::say(Event::Read, byte.value, byte.end, 0),
+            ..quiet
         },
     }
 }
@@ -81,33 +73,30 @@ fn requested(request: Request, p: Party) -> Outcome
 pub fn poll_register(value: u8, v: View) -> Outcome
     ensures { result ≡ poll_register value v }
 {
-    let p = v.party;
-    let request = p.request;
-    requested(request.with_saved(value), p)
+    requested(v.party.request.with_saved(value), v.party)
 }
 
 pub fn second_request(on: bool, v: View) -> Outcome
     ensures { result ≡ second_request on v }
 {
-    let p = v.party;
-    let request = p.request;
-    requested(request.with_rsv2(on), p)
+    requested(v.party.request.with_rsv2(on), v.party)
 }
 
-// The acceptor of who is told to listen or not: who joins while a byte stands waits for its end.
+// The acceptor of who comes to hear: who joins while a byte stands waits for its end.
+fn joining(dav: bool) -> Acceptor
+    ensures { result ≡ joining dav }
+{
+    if dav { Acceptor::Awns } else { Acceptor::Anrs }
+}
+
+// The acceptor of who is told to listen or not.
 fn listen_acceptor(on: bool, was: bool, l: Lines, a: Acceptor) -> Acceptor
     ensures { result ≡ listen_acceptor on was l a }
 {
-    if l.atn {
+    if l.atn || (on && was) {
         a
     } else if on {
-        if was {
-            a
-        } else if l.dav {
-            Acceptor::Awns
-        } else {
-            Acceptor::Anrs
-        }
+        joining(l.dav)
     } else {
         Acceptor::Aids
     }
@@ -116,46 +105,41 @@ fn listen_acceptor(on: bool, was: bool, l: Lines, a: Acceptor) -> Acceptor
 pub fn listen_only(on: bool, v: View) -> Outcome
     ensures { result ≡ listen_only on v }
 {
-    let l = v.lines;
     let p = v.party;
-    let role = p.role;
-    let acceptor = p.acceptor;
-    let q = p.with_acceptor(listen_acceptor(on, role.listen, l, acceptor));
-    Outcome::quiet(0, q.with_role(role.with_flags(role.talk, on)))
+    let party = Party {
+        role: p.role.with_flags(p.role.talk, on),
+        acceptor: listen_acceptor(on, p.role.listen, v.lines, p.acceptor),
+        ..p
+    };
+    Outcome::quiet(0, party)
 }
 
 pub fn talk_only(on: bool, v: View) -> Outcome
     ensures { result ≡ talk_only on v }
 {
-    let p = v.party;
-    let role = p.role;
-    Outcome::quiet(0, p.with_role(role.with_flags(on, role.listen)))
+    let role = v.party.role;
+    Outcome::quiet(0, v.party.with_role(role.with_flags(on, role.listen)))
 }
 
 // Take control, or go to standby.
 pub fn controlled(control: Control, v: View) -> Outcome
     ensures { result ≡ controlled control v }
 {
-    let p = v.party;
-    Outcome::quiet(p.held_bytes(), p.change_control(control)).then(After::Attend)
+    let party = v.party.change_control(control);
+    Outcome::quiet(v.party.held_bytes(), party).then(After::Attend)
 }
 
 pub fn drop_held(v: View) -> Outcome
     ensures { result ≡ drop_held v }
 {
-    let p = v.party;
-    Outcome::quiet(p.held_bytes(), p.with_held(Slot::Empty))
+    Outcome::quiet(v.party.held_bytes(), v.party.with_held(None))
 }
 
 fn reset_acceptor(l: Lines) -> Acceptor
     ensures { result ≡ reset_acceptor l }
 {
     if l.atn {
-        if l.dav {
-            Acceptor::Awns
-        } else {
-            Acceptor::Anrs
-        }
+        joining(l.dav)
     } else {
         Acceptor::Aids
     }
@@ -165,14 +149,12 @@ fn reset_acceptor(l: Lines) -> Acceptor
 pub fn reset(v: View) -> Outcome
     ensures { result ≡ reset v }
 {
-    let l = v.lines;
-    let p = v.party;
-    let dropped = p.held_bytes();
-    let wiped = p.wiped();
-    if p.is_active() {
+    let dropped = v.party.held_bytes();
+    let wiped = v.party.wiped();
+    if v.party.is_active() {
         Outcome::quiet(dropped, wiped).then(After::Attend)
     } else {
-        Outcome::quiet(dropped, wiped.with_acceptor(reset_acceptor(l)))
+        Outcome::quiet(dropped, wiped.with_acceptor(reset_acceptor(v.lines)))
     }
 }
 
@@ -180,20 +162,18 @@ pub fn reset(v: View) -> Outcome
 pub fn clear(v: View) -> Outcome
     ensures { result ≡ clear v }
 {
-    let p = v.party;
-    Outcome::quiet(0, p.cleared().change_control(Control::Active)).then(After::Clear)
+    let active = v.party.cleared().change_control(Control::Active);
+    Outcome::quiet(0, active).then(After::Clear)
 }
 
 // The lines are told.
 pub fn tell(v: View) -> Outcome
     ensures { result ≡ tell v }
 {
-    let l = v.lines;
-    let party = v.party;
     Outcome {
-        said: Said::say(Event::Lines, l.byte(), false, 0),
+        said: Said::say(Event::Lines, v.lines.byte(), false, 0),
         after: After::Settle,
-        party,
+        party: v.party,
     }
 }
 
@@ -201,6 +181,5 @@ pub fn tell(v: View) -> Outcome
 pub fn parallel_poll(v: View) -> Outcome
     ensures { result ≡ parallel_poll v }
 {
-    let p = v.party;
-    Outcome::quiet(0, p).then(After::Poll)
+    Outcome::quiet(0, v.party).then(After::Poll)
 }

@@ -2,7 +2,7 @@
 pub use Rattle.party.specs.declared.Control.{Control}
 pub use Rattle.party.specs.declared.Control.TheVariants.{Idle, Standby, Active}
 pub use Rattle.effect.specs.declared.View.{View}
-pub use Rattle.effect.specs.declared.Refusal.{Refusal}
+pub use Rattle.effect.specs.Types.{Verdict}
 pub use Rattle.effect.specs.declared.Refusal.TheVariants as ruling
 pub use Rattle.effect.specs.declared.Call.{Call}
 pub use Rattle.effect.specs.declared.Call.TheVariants as call_of

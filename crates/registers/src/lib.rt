@@ -26,24 +26,24 @@ pub enum Auxiliary {
     Tca,
     Sic,
     Rsv2,
-    NotCarried,
 }
 
+// By the chip's own codes; a function with the name of its definition, and no TryFrom.
 #[tactic(auto, unfolding(crate::specs::Registers::auxiliary_of))]
-fn auxiliary_of(code: u8) -> Auxiliary
+fn auxiliary_of(code: u8) -> Option<Auxiliary>
     ensures { result ≡ auxiliary_of code }
 {
     match code {
-        0 => Auxiliary::Swrst,
-        5 => Auxiliary::Nbaf,
-        8 => Auxiliary::Feoi,
-        9 => Auxiliary::Lon,
-        10 => Auxiliary::Ton,
-        11 => Auxiliary::Gts,
-        12 => Auxiliary::Tca,
-        15 => Auxiliary::Sic,
-        24 => Auxiliary::Rsv2,
-        _ => Auxiliary::NotCarried,
+        0 => Some(Auxiliary::Swrst),
+        5 => Some(Auxiliary::Nbaf),
+        8 => Some(Auxiliary::Feoi),
+        9 => Some(Auxiliary::Lon),
+        10 => Some(Auxiliary::Ton),
+        11 => Some(Auxiliary::Gts),
+        12 => Some(Auxiliary::Tca),
+        15 => Some(Auxiliary::Sic),
+        24 => Some(Auxiliary::Rsv2),
+        _ => None,
     }
 }
 
@@ -68,10 +68,10 @@ fn commanded(command: Auxiliary, on: u8) -> Act
         Auxiliary::Tca => Act::TakeControl,
         Auxiliary::Sic => when_set(on, Act::InterfaceClear),
         Auxiliary::Rsv2 => Act::SecondRequest(on),
-        Auxiliary::NotCarried => Act::NoRegister,
     }
 }
 
+// By the offsets of the registers.
 fn read_from(offset: u8) -> Act
     ensures { result ≡ read_from offset }
 {
@@ -82,11 +82,15 @@ fn read_from(offset: u8) -> Act
     }
 }
 
+// By the offsets of the registers.
 fn written_to(offset: u8, value: u8) -> Act
     ensures { result ≡ written_to offset value }
 {
     match offset {
-        3 => commanded(auxiliary_of(value % 32), value / 128),
+        3 => match auxiliary_of(value % 32) {
+            Some(command) => commanded(command, value / 128),
+            None => Act::NoRegister,
+        },
         5 => Act::PollRegister(value),
         7 => Act::DataOut(value),
         _ => Act::NoRegister,

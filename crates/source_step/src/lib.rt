@@ -8,117 +8,98 @@ ghost use Rattle.source_step.specs.SourceStep.{put, noacc, offering, ready, pass
 use effect::{After, Effect, Said, Standing, View};
 use event::Event;
 use message::meaning_of;
-use offer::{Kind, Slot};
-use parties::Found;
-use party::Source;
-use role::hearing;
+use offer::{Byte, Kind};
+use party::{Place, Source};
+use role::hearing::passes_control;
 
 // The byte is put up.
-fn put(kind: Kind, byte: u8, end: bool, v: View) -> Effect
-    ensures { result ≡ put kind byte end v }
+fn put(kind: Kind, byte: Byte, v: View) -> Effect
+    ensures { result ≡ put kind byte.value byte.end v }
 {
-    let p = v.party;
-    let sender = v.place;
-    let carried = kind.end(end);
-    let standing = Standing::Byte {
-        sender,
+    let end = kind.end(byte.end);
+    let standing = Standing {
+        sender: v.place,
         kind,
-        value: byte,
-        end: carried,
+        value: byte.value,
+        end,
     };
-    let said = Said::say(kind.put_event(), byte, carried, 0);
-    Effect::does(said, p.parted(kind), standing)
+    let said = Said::say(kind.put_event(), byte.value, end, 0);
+    Effect::does(said, v.party.parted(kind), Some(standing))
 }
 
 // Nobody is there to accept the byte, which is kept.
-fn noacc(kind: Kind, byte: u8, end: bool, v: View) -> Effect
-    ensures { result ≡ noacc kind byte end v }
+fn noacc(kind: Kind, byte: Byte, v: View) -> Effect
+    ensures { result ≡ noacc kind byte.value byte.end v }
 {
-    let p = v.party;
-    let st = v.standing;
-    Effect::does(Said::say(Event::Noacc, byte, kind.end(end), 0), p, st)
+    let said = Said::say(Event::Noacc, byte.value, kind.end(byte.end), 0);
+    Effect::does(said, v.party, v.standing)
 }
 
 // A source in SGNS.
 fn offering(full: bool, v: View) -> Effect
     ensures { result ≡ offering full v }
 {
-    let p = v.party;
     if full {
-        v.moved(p.with_source(Source::Sdys))
+        v.moved(v.party.with_source(Source::Sdys))
     } else {
         v.stay()
     }
 }
 
 // A source in SDYS.
-fn ready(offer: Slot, kind: Kind, v: View) -> Effect
+fn ready(offer: Option<Byte>, kind: Kind, v: View) -> Effect
     ensures { result ≡ ready offer kind v }
 {
-    let l = v.lines;
-    let p = v.party;
     match offer {
-        Slot::Empty => v.moved(p.with_source(Source::Sgns)),
-        Slot::Full(byte, end) => {
-            if l.nrfd {
-                v.stay()
-            } else if l.ndac {
-                put(kind, byte, end, v)
-            } else {
-                noacc(kind, byte, end, v)
-            }
-        }
+        None => v.moved(v.party.with_source(Source::Sgns)),
+        Some(_) if v.lines.nrfd => v.stay(),
+        Some(byte) if v.lines.ndac => put(kind, byte, v),
+        Some(byte) => noacc(kind, byte, v),
     }
 }
 
 // Who is in control once TCT has ended: the other talker, if there is one.
-fn pass_to(passes: bool, talker: Found) -> After
+fn pass_to(passes: bool, talker: Option<Place>) -> After
     ensures { result ≡ pass_to passes talker }
 {
     match talker {
-        Found::Nowhere => After::Settle,
-        Found::At(j) => if passes {
-            After::Pass(j)
-        } else {
-            After::Settle
-        },
+        Some(j) if passes => After::Pass(j),
+        _ => After::Settle,
     }
 }
 
 // A command has ended, and is heard by its own sender too.
-fn command_ended(byte: u8, end: bool, v: View) -> Effect
-    ensures { result ≡ ended_byte Command byte end v }
+fn command_ended(byte: Byte, v: View) -> Effect
+    ensures { result ≡ ended_byte Command byte.value byte.end v }
 {
-    let p = v.party;
-    let talker = v.talker;
     Effect {
-        said: Said::say(Event::Ended, byte, end, 0),
-        after: pass_to(hearing::passes_control(meaning_of(byte)), talker),
-        party: p.heard(byte).with_source(Source::Sgns),
-        standing: Standing::Nothing,
+        said: Said::say(Event::Ended, byte.value, byte.end, 0),
+        after: pass_to(passes_control(meaning_of(byte.value)), v.talker),
+        party: v.party.heard(byte.value).with_source(Source::Sgns),
+        standing: None,
     }
 }
 
 // NDAC is false: what stands has ended.
-fn ended(st: Standing, v: View) -> Effect
+fn ended(st: Option<Standing>, v: View) -> Effect
     ensures { result ≡ ended st v }
 {
-    match st {
-        Standing::Nothing => v.stay(),
-        Standing::Byte {
-            sender: _,
+    let Some(
+        Standing {
             kind,
             value,
             end,
-        } => {
-            let p = v.party;
+            ..
+        },
+    ) = st
+    else {
+        return v.stay();
+    };
+    match kind {
+        Kind::Command => command_ended(Byte { value, end }, v),
+        Kind::Data | Kind::Status => {
             let said = Said::say(Event::Ended, value, end, 0);
-            let party = p.with_source(Source::Sgns);
-            match kind {
-                Kind::Command => command_ended(value, end, v),
-                Kind::Data => Effect::does(said, party, Standing::Nothing),
-                Kind::Status => Effect::does(said, party, Standing::Nothing),
-            }
+            Effect::does(said, v.party.with_source(Source::Sgns), None)
         }
     }
 }
@@ -126,17 +107,14 @@ fn ended(st: Standing, v: View) -> Effect
 pub fn source_step(v: View) -> Effect
     ensures { result ≡ source_step v }
 {
-    let l = v.lines;
-    let st = v.standing;
     let p = v.party;
-    let source = p.source;
-    let polled = p.is_polled(l.atn);
+    let polled = p.is_polled(v.lines.atn);
     let offer = p.offer(polled);
-    let kind = Kind::of(p.is_active(), polled);
-    match source {
+    match p.source {
         Source::Sids => v.stay(),
-        Source::Sgns => offering(offer.is_full(), v),
-        Source::Sdys => ready(offer, kind, v),
-        Source::Strs => if l.ndac { v.stay() } else { ended(st, v) },
+        Source::Sgns => offering(offer.is_some(), v),
+        Source::Sdys => ready(offer, Kind::of(p.is_active(), polled), v),
+        Source::Strs if v.lines.ndac => v.stay(),
+        Source::Strs => ended(v.standing, v),
     }
 }
