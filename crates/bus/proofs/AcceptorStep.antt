@@ -1,11 +1,10 @@
 -- The acceptor step: a move of the acceptor, a taking as data, a command heard.
 -- Assumes nothing.
-use mathlib.Core.Path.{◌≡◌, refl, sym, ap, ◌∙◌, subst}
+use mathlib.Core.Path.{◌≡◌, refl, sym, ap, ◌∙◌}
 use mathlib.Core.Bool.{Bool, true, false, not, ◌||◌}
 use mathlib.Core.Logic.{inl, inr}
 use Prim.Native.Nat.{ℕ, ◌<◌}
 use Rattle.message.specs.Meaning.{meaning_of}
-use Rattle.offer.specs.Offer.{is_full}
 use Rattle.party.specs.Parts.{with_acceptor}
 use Rattle.party.specs.Driving.{is_active}
 use Rattle.role.specs.Roles.{role_heard, hear_event}
@@ -14,7 +13,7 @@ use Rattle.role.proofs.Logic.{no, test, cond-elim, or_right}
 use Rattle.role.proofs.Roles.{weak_same, hear_single, hear_name, hear_events}
 use Rattle.party.proofs.Settled.{source_of_active}
 use Rattle.bus.specs.Types.{Place, Party, Strs, Acceptor, Aids, Anrs, Acrs, Acds, Awns, Kind, Event, Standing}
-use Rattle.bus.specs.Types.{Nothing, Byte, Bus, Effect, View}
+use Rattle.bus.specs.Types.{Bus, Effect, View}
 use Rattle.bus.specs.Types.ev
 use Rattle.bus.specs.Types.call_of
 use Rattle.bus.specs.Types.act_of
@@ -31,6 +30,8 @@ use Rattle.bus.proofs.Putting.{off_command, look_on, look_off}
 use Rattle.bus.proofs.Accepting.{stands_dav}
 use Rattle.bus.proofs.Summary.{Good, kept_good}
 use Rattle.bus.proofs.OneParty.{step_caller, stay_good, seated_good}
+use Rattle.std.specs.Prelude.{Option, Some, None, is_some}
+use Rattle.effect.specs.Stands.{sent}
 
 -- what heard, clear and trigger are
 record TakeEvent (x : Event) : Type 0 where
@@ -70,7 +71,8 @@ module _ (b : Bus) (I : Inv b) (p : Place) (l : p.0 < b.count) (ns : is_source (
   unfolding G
   stays = stay_good b I p l
 
-  hear_good : (s : Place) (k : Kind) (v : ℕ) (e : Bool) → (here b p.0).acceptor ≡ Acrs → b.standing ≡ Byte s k v e
+  hear_good : (s : Place) (k : Kind) (v : ℕ) (e : Bool) → (here b p.0).acceptor ≡ Acrs
+      → b.standing ≡ Some (sent s k v e)
       → atn_of b ≡ true
       → G (hears v e seen)
   unfolding G
@@ -120,12 +122,13 @@ module _ (b : Bus) (I : Inv b) (p : Place) (l : p.0 < b.count) (ns : is_source (
       -- what was waited for has come
       before : look b.standing p.0 q ≡ role_heard (meaning_of v) q.role
       before = look_on b.standing p.0 q (rw (cmd, ea) (or_right (sent_by p.0 b.standing) refl))
-          ∙ ap (λ (st : Standing). role_heard (code_of st) q.role) es
+          ∙ ap (λ (st : Option Standing). role_heard (code_of st) q.role) es
 
       later : look b.standing p.0 new ≡ role_heard (meaning_of v) q.role
       later = look_off b.standing p.0 new (rw (cmd, not_mine cmd))
 
-  took_good : (s : Place) (k : Kind) (v : ℕ) (e : Bool) → (here b p.0).acceptor ≡ Acrs → b.standing ≡ Byte s k v e
+  took_good : (s : Place) (k : Kind) (v : ℕ) (e : Bool) → (here b p.0).acceptor ≡ Acrs
+      → b.standing ≡ Some (sent s k v e)
       → atn_of b ≡ false
       → G (fills v e seen)
   unfolding G
@@ -163,7 +166,7 @@ module _ (b : Bus) (I : Inv b) (p : Place) (l : p.0 < b.count) (ns : is_source (
       → ((here b p.0).acceptor ≡ Aids → ⊥)
       → waits b.standing p.0 x ≡ waits b.standing p.0 (here b p.0).acceptor
       → (stands b.standing ≡ true → x ≡ Acrs → ⊥)
-      → (atn_of b ≡ false → x ≡ Acrs → is_full (here b p.0).input ≡ false) → ((here b p.0).acceptor ≡ Acrs → ⊥)
+      → (atn_of b ≡ false → x ≡ Acrs → is_some (here b p.0).input ≡ false) → ((here b p.0).acceptor ≡ Acrs → ⊥)
       → G (moved seen (with_acceptor x (here b p.0)))
   unfolding G
   shift_good x an ai pa c ac em pc = seated_good b (call_of.Of p act_of.Step) I p.0 l (say ev.Moved 0 false 0)
@@ -195,9 +198,9 @@ module _ (b : Bus) (I : Inv b) (p : Place) (l : p.0 < b.count) (ns : is_source (
         leaves = λ s e. absurd (pc e);
       })
 
-  nobody : (st : Standing) (x y : Acceptor) → stands st ≡ false → waits st p.0 x ≡ waits st p.0 y
-  nobody Nothing x z e = refl
-  nobody (Byte s k v y) x z e = no (cc)
+  nobody : (st : Option Standing) (x y : Acceptor) → stands st ≡ false → waits st p.0 x ≡ waits st p.0 y
+  nobody None x z e = refl
+  nobody (Some st) x z e = no (cc)
 
   -- with DAV false nothing stands
   none_stands : (lines b).dav ≡ false → stands b.standing ≡ false
@@ -209,20 +212,20 @@ module _ (b : Bus) (I : Inv b) (p : Place) (l : p.0 < b.count) (ns : is_source (
 
   -- with room in data-in, or under ATN
   room : (t f : Bool) → t ≡ false → (t || not f) ≡ true → f ≡ false
-  room true f e h = no (cc)
-  room false true e h = no (cc)
   room false false e h = refl
+  room t f e h = no (cc)
 
-  takes_good : (here b p.0).acceptor ≡ Acrs → (st : Standing) → b.standing ≡ st → G (takes st seen)
-  takes_good ea Nothing es = stays
-  takes_good ea (Byte s k v e) es = cond-elim G (atn_of b) (hear_good s k v e ea es) (took_good s k v e ea es)
+  takes_good : (here b p.0).acceptor ≡ Acrs → (st : Option Standing) → b.standing ≡ st → G (takes st seen)
+  takes_good ea None es = stays
+  takes_good ea (Some st) es = cond-elim G (atn_of b) (hear_good st.sender st.kind st.value st.end ea es)
+      (took_good st.sender st.kind st.value st.end ea es)
 
   by_state : (x : Acceptor) → (here b p.0).acceptor ≡ x → G (acceptor_in x seen)
   by_state Aids ea = stays
-  by_state Anrs ea = cond-elim G (atn_of b || not (is_full (here b p.0).input))
+  by_state Anrs ea = cond-elim G (atn_of b || not (is_some (here b p.0).input))
       (λ h. shift_good _ (λ _ e. no (cc)) (λ e. no (cc)) (λ e. no (cc))
       (nobody b.standing Acrs (here b p.0).acceptor (anrs_none ea)) (λ s e. I.pre.no_anrs s p.0 ea)
-      (λ t _. room (atn_of b) (is_full (here b p.0).input) t h) (λ e. no (cc)))
+      (λ t _. room (atn_of b) (is_some (here b p.0).input) t h) (λ e. no (cc)))
       (λ _. stays)
   by_state Acrs ea = cond-elim G (lines b).dav (λ _. takes_good ea b.standing refl) (λ _. stays)
   by_state Acds ea = shift_good _ (λ _ e. no (cc)) (λ e. no (cc)) (λ e. no (cc)) (rw ea) (λ s e. no (cc))

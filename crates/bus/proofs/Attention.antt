@@ -10,7 +10,6 @@ use lib.ListN.{length}
 use lib.Dec.{ltb}
 use borrow.Author.Tests.{ltb-true, ltb-false}
 use Rattle.party.specs.Parts.{idle, held_bytes}
-use Rattle.offer.specs.Offer.{is_full}
 use Rattle.party.specs.Driving.{is_active}
 use Rattle.party.specs.Settling.{attended, acceptor_attended, settled}
 use Rattle.role.proofs.Logic.{no}
@@ -19,12 +18,13 @@ use Rattle.party.proofs.Settled.{attended_unmarked}
 use Rattle.parties.specs.Places.{at, some, each, total}
 use Rattle.parties.proofs.Places.{at_each, each_below, each_past, some_seen, some_each, length_each, total_each}
 use Rattle.bus.specs.Types.{Name, Party, Control, Idle, Standby, Active, Strs, Acceptor, Aids, Anrs, Acrs, Acds}
-use Rattle.bus.specs.Types.{Standing, Nothing, Byte, Bus}
+use Rattle.bus.specs.Types.{Standing, Bus}
 use Rattle.bus.specs.Types.{Said}
 use Rattle.effect.specs.Stands.{stands}
 use Rattle.bus.specs.Settling.{attend}
 use Rattle.bus.proofs.Invariant.{busy, Pre, Inv, kept_pre, seen, seen_still}
 use Rattle.bus.proofs.Change.{Unique, same_apart}
+use Rattle.std.specs.Prelude.{Option, Some, None, is_some}
 
 -- the parties after attention, place by place
 abbrev heeded : Bool → ℕ → (ℕ → Party) → ℕ → Party
@@ -71,7 +71,7 @@ attended_taker false c true e = anrs e
 attended_taker false c false e = aids e
 
 heed_pre : (t : Bool) (n : ℕ) (v : ℕ → Party) → Raw n v → ((j : ℕ) → is_active (v j) ≡ true → t ≡ true)
-    → Pre n t (heeded t n v) Nothing
+    → Pre n t (heeded t n v) None
 heed_pre t n v P a = record {
   tail = heeded_all t n v (λ j x. n ≤ j → x ≡ idle) (λ j l h. absurd (bad j l h)) (λ j l. P.tail j);
   atn_if = λ j h. a j (sym (heeded_same t n v Bool is_active (λ p. refl) j) ∙ h);
@@ -100,9 +100,9 @@ heed_pre t n v P a = record {
       (heeded_all t n v (λ j x. marked x.role ≡ false) (λ j l. attended_unmarked t (v j))
       (λ j l. ap (λ (x : Party). marked x.role) (P.tail j l)));
   apart = heeded_all t n v (λ j x. Single x.role) (λ j l. P.apart j) (λ j l. P.apart j);
-  empty = λ e. heeded_all t n v (λ j x. x.acceptor ≡ Acrs → is_full x.input ≡ false)
+  empty = λ e. heeded_all t n v (λ j x. x.acceptor ≡ Acrs → is_some x.input ≡ false)
       (λ j l h. absurd (attended_taker t (v j).control (v j).role.listen (inl h)))
-      (λ j l h. ap (λ (x : Party). is_full x.input) (P.tail j l));
+      (λ j l h. ap (λ (x : Party). is_some x.input) (P.tail j l));
   plain = λ h. no (cc);
   polled = λ j h. no (cc);
   polls = λ j h. no (cc);
@@ -114,11 +114,11 @@ heed_pre t n v P a = record {
     under : t ≡ true → (p : Party) → is_active p ≡ false → (attended t p).acceptor ≡ Aids → ◌≡◌ {A = ℕ} 0 1
     under e p h q = let z : (attended t p).acceptor ≡ Anrs = rw (e, h) in cc
 
-pub off_nothing : (st : Standing) → cond (stands st) Nothing st ≡ Nothing
-off_nothing Nothing = refl
-off_nothing (Byte s k v e) = refl
+pub off_nothing : (st : Option Standing) → cond (stands st) None st ≡ None
+off_nothing None = refl
+off_nothing (Some st) = refl
 
-module _ (b : Bus) (s : Said) (ps : List Party) (st : Standing) (z : length ps ≡ 15) (l : b.count ≤ 15)
+module _ (b : Bus) (s : Said) (ps : List Party) (st : Option Standing) (z : length ps ≡ 15) (l : b.count ≤ 15)
     (R : Raw b.count (at ps)) where
   n : ℕ
   n = b.count
@@ -131,8 +131,8 @@ module _ (b : Bus) (s : Said) (ps : List Party) (st : Standing) (z : length ps �
   attend_inv = record {
     size = length_each n (settled t) qs ∙ length_each n (attended t) ps ∙ z;
     small = l;
-    pre = rw (off_nothing st) (seen n qs fits tail t Nothing same
-        (kept_pre n t (at qs) Nothing (subst (λ (w : ℕ → Party). Pre n t w Nothing) (sym seen_as) heed)
+    pre = rw (off_nothing st) (seen n qs fits tail t None same
+        (kept_pre n t (at qs) None (subst (λ (w : ℕ → Party). Pre n t w None) (sym seen_as) heed)
         (λ j h. no (cc))));
     still = seen_still n qs fits tail t same;
   }
@@ -143,7 +143,7 @@ module _ (b : Bus) (s : Said) (ps : List Party) (st : Standing) (z : length ps �
       seen_as : at qs ≡ heeded t n (at ps)
       seen_as = at_each n (attended t) ps (omega (arith, z))
 
-      heed : Pre n t (heeded t n (at ps)) Nothing
+      heed : Pre n t (heeded t n (at ps)) None
       heed = heed_pre t n (at ps) R (some_seen n is_active ps refl R.tail)
 
       fits : n ≤ length qs

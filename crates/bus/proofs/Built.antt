@@ -11,7 +11,6 @@ use lib.ListN.{length, get_or}
 use borrow.Author.Tests.{ltb-true, ltb-false}
 use Rattle.names.specs.Names.{clashes}
 use Rattle.party.specs.Parts.{idle, held_bytes, built_party}
-use Rattle.offer.specs.Offer.{is_full}
 use Rattle.party.specs.Driving.{is_active}
 use Rattle.party.specs.Settling.{settled}
 use Rattle.role.proofs.Logic.{no, test}
@@ -19,23 +18,23 @@ use Rattle.role.proofs.Roles.{marked, unmarked}
 use Rattle.party.proofs.Settled.{newborn_still}
 use Rattle.parties.specs.Places.{at, each}
 use Rattle.parties.proofs.Places.{some_true, total_zero}
-use Rattle.bus.specs.Types.{Place, Name, Party, Strs, Aids, Acrs, Nothing, Said}
+use Rattle.bus.specs.Types.{Place, Name, Party, Strs, Aids, Acrs, Said}
 use Rattle.bus.specs.Record.{here, built}
 use Rattle.addresses.specs.Addresses.{placed, bad_build}
 use Rattle.addresses.proofs.Unrefused.{beyond, fits, apart}
 use Rattle.bus.specs.Settling.{settle_bus}
 use Rattle.bus.specs.Delivery.{held}
 use Rattle.bus.proofs.Invariant.{busy, Pre, Inv, atn_of}
+use Rattle.std.specs.Prelude.{None, is_some}
 
 -- settling a bus just built leaves it as it is
 placed_still : (n m : ℕ) (atn : Bool) (xs : List Name) → each n (settled atn) (placed m xs) ≡ placed m xs
-placed_still zero m atn xs = refl
-placed_still (suc n) zero atn xs = refl
 placed_still (suc n) (suc m) atn [] = rw (newborn_still atn, placed_still n m atn []) refl
 placed_still (suc n) (suc m) atn (a ∷ xs) = rw (newborn_still atn, placed_still n m atn xs) refl
+placed_still n m atn xs = refl
 
 pub built_settled : (xs : List Name) (s : Place) (atn : Bool) (w : Said)
-    → (settle_bus atn (built xs s) w (built xs s).parties Nothing).bus ≡ built xs s
+    → (settle_bus atn (built xs s) w (built xs s).parties None).bus ≡ built xs s
 built_settled xs s atn w = rw (placed_still _ 15 _ xs) refl
 
 -- the places
@@ -52,11 +51,10 @@ placed_at (suc n) (a ∷ xs) zero h l = refl
 placed_at (suc n) (a ∷ xs) (suc j) h l = placed_at n xs j (le_of_suc-le-suc h) (le_of_suc-le-suc l)
 
 placed_past : (n : ℕ) (xs : List Name) (j : ℕ) → length xs ≤ j → at (placed n xs) j ≡ idle
-placed_past zero xs j h = refl
-placed_past (suc n) [] zero h = refl
 placed_past (suc n) [] (suc j) h = placed_past n [] j (omega arith)
 placed_past (suc n) (a ∷ xs) zero h = absurd (not-suc-le-zero h)
 placed_past (suc n) (a ∷ xs) (suc j) h = placed_past n xs j (le_of_suc-le-suc h)
+placed_past n xs j h = refl
 
 -- The bus that an accepted build gives.
 module _ (xs : List Name) (s : Place) (ok : bad_build xs s ≡ false) where
@@ -76,7 +74,7 @@ module _ (xs : List Name) (s : Place) (ok : bad_build xs s ≡ false) where
   nobody = test (atn_of (built xs s)) (λ h. let r = some_true (length xs) is_active (placed 15 xs) h in let z = all_new
       (λ p. is_active p ≡ false) (λ a. refl) r.0 in let y = r.1 in no (cc)) (λ h. h)
 
-  fresh_pre : Pre (length xs) (atn_of (built xs s)) (here (built xs s)) Nothing
+  fresh_pre : Pre (length xs) (atn_of (built xs s)) (here (built xs s)) None
   fresh_pre = record {
     tail = λ j h. placed_past 15 xs j h;
     atn_if = all_new (λ p. is_active p ≡ true → atn_of (built xs s) ≡ true) (λ a h. no (cc));
@@ -99,7 +97,7 @@ module _ (xs : List Name) (s : Place) (ok : bad_build xs s ≡ false) where
         (λ i j. all_new (λ p. p.role.talk ≡ true → (here (built xs s) j).role.talk ≡ true → i ≡ j) (λ a h. no (cc)) i)
         (all_new (λ p. marked p.role ≡ false) (λ a. refl));
     apart = all_new (λ p. p.role.talk ≡ true → p.role.listen ≡ true → ⊥) (λ a h. no (cc));
-    empty = λ h. all_new (λ p. p.acceptor ≡ Acrs → is_full p.input ≡ false) (λ a e. refl);
+    empty = λ h. all_new (λ p. p.acceptor ≡ Acrs → is_some p.input ≡ false) (λ a e. refl);
     plain = λ h. no (cc);
     polled = λ j h. no (cc);
     polls = λ j h. no (cc);

@@ -1,30 +1,27 @@
 -- One party changes and what stands stays: what the change must keep for the invariant to hold.
 -- Assumes nothing.
 use mathlib.Core.Path.{◌≡◌, refl, sym, ap, ◌∙◌}
-use mathlib.Core.Bool.{Bool, true, false, cond}
+use mathlib.Core.Bool.{Bool, true, false}
 use Prim.Native.Nat.{ℕ, ◌≤◌, ◌<◌}
 use native.Mathlib.Omega.{arith}
 use lib.Dec.{eqb}
 use borrow.Author.Tests.{eqb-true, eqb-false}
 use Rattle.party.specs.Parts.{idle}
-use Rattle.offer.specs.Offer.{is_full}
 use Rattle.party.specs.Driving.{is_active}
 use Rattle.party.specs.Sending.{is_source, is_polled}
 use Rattle.names.specs.Names.{clashes}
+use Rattle.role.proofs.Logic.{cond-elim}
 use Rattle.role.proofs.Roles.{name_of, Single, Apart, Addressed, Weak, weak_same, weaken}
 use Rattle.parties.proofs.Places.{upd}
 use Rattle.bus.specs.Types.{Name, Party, Strs, Aids, Anrs, Acrs, Role, Standing}
 use Rattle.effect.specs.Stands.{stands}
 use Rattle.bus.proofs.Invariant.{busy, sent_by, of_status, stands_of, look, Pre}
+use Rattle.std.specs.Prelude.{Option, is_some}
 
 module _ (v : ℕ → Party) (i : ℕ) (q : Party) where
   -- what holds of q at place i and of the others as they were holds of all
   pub upd_all : (R : ℕ → Party → Type 0) → R i q → ((j : ℕ) → (j ≡ i → ⊥) → R j (v j)) → (j : ℕ) → R j (upd v i q j)
-  upd_all R f g j = go (eqb j i) refl
-    where
-      go : (x : Bool) → eqb j i ≡ x → R j (cond x q (v j))
-      go true e = rw (eqb-true j i e) f
-      go false e = g j (eqb-false j i e)
+  upd_all R f g j = cond-elim (R j) (eqb j i) (λ e. rw (eqb-true j i e) f) (λ e. g j (eqb-false j i e))
 
 abbrev pub Unique : (Party → Bool) → (ℕ → Party) → Type 0
 Unique f v = (i j : ℕ) → f (v i) ≡ true → f (v j) ≡ true → i ≡ j
@@ -47,14 +44,15 @@ upd_apart n v i q e = same_apart n (λ j. (v j).role) (λ j. (upd v i q j).role)
     (upd_all v i q (λ j x. name_of x.role ≡ name_of (v j).role) e (λ j ne. refl))
 
 -- party i claims no more than it did
-pub weak_look : {atn : Bool} (v : ℕ → Party) (st : Standing) (i : ℕ) (q : Party) → Weak (look st i (v i)) (look st i q)
+pub weak_look : {atn : Bool} (v : ℕ → Party) (st : Option Standing) (i : ℕ) (q : Party)
+    → Weak (look st i (v i)) (look st i q)
     → Addressed atn (λ j. look st j (v j)) → Addressed atn (λ j. look st j (upd v i q j))
 weak_look v st i q h = weaken (λ j. look st j (v j)) (λ j. look st j (upd v i q j))
     (upd_all v i q (λ j x. Weak (look st j (v j)) (look st j x)) h
     (λ j ne. weak_same (look st j (v j)) (look st j (v j)) refl))
 
 -- p becomes q: what that keeps
-pub record Kept (atn : Bool) (st : Standing) (p q : Party) : Type 0 where
+pub record Kept (atn : Bool) (st : Option Standing) (p q : Party) : Type 0 where
   pub name : name_of q.role ≡ name_of p.role
   pub act : is_active q ≡ is_active p
   pub ctl : busy q.control ≡ true → busy p.control ≡ true
@@ -66,13 +64,14 @@ pub record Kept (atn : Bool) (st : Standing) (p q : Party) : Type 0 where
   pub listens : atn ≡ false → q.role.listen ≡ false → q.acceptor ≡ Aids
   pub joins : atn ≡ false → q.role.listen ≡ true → q.acceptor ≡ Aids → ⊥
   pub apart : Single q.role
-  pub empty : atn ≡ false → q.acceptor ≡ Acrs → is_full q.input ≡ false
+  pub empty : atn ≡ false → q.acceptor ≡ Acrs → is_some q.input ≡ false
   -- of a sender: it is polled if it was, and was if it is and is a source still
   pub polled : p.source ≡ Strs → is_polled atn q ≡ true → is_polled atn p ≡ true
   pub polls : p.source ≡ Strs → is_source atn q ≡ true
       → (is_source atn p ≡ true) × (is_polled atn p ≡ true → is_polled atn q ≡ true)
 
-pub keep_pre : (n : ℕ) (atn : Bool) (v : ℕ → Party) (st : Standing) → Pre n atn v st → (i : ℕ) → i < n → (q : Party)
+pub keep_pre : (n : ℕ) (atn : Bool) (v : ℕ → Party) (st : Option Standing) → Pre n atn v st → (i : ℕ) → i < n
+    → (q : Party)
     → Kept atn st (v i) q
     → Addressed atn (λ j. look st j (upd v i q j)) → Pre n atn (upd v i q) st
 keep_pre n atn v st P i l q K o = record {
@@ -98,7 +97,7 @@ keep_pre n atn v st P i l q K o = record {
       (λ j ne. P.joins t j);
   heard = o;
   apart = upd_all v i q (λ j x. Single x.role) K.apart (λ j ne. P.apart j);
-  empty = λ t. upd_all v i q (λ j x. x.acceptor ≡ Acrs → is_full x.input ≡ false) (K.empty t)
+  empty = λ t. upd_all v i q (λ j x. x.acceptor ≡ Acrs → is_some x.input ≡ false) (K.empty t)
       (λ j ne. P.empty t j);
   plain = P.plain;
   polled = upd_all v i q (λ j x. sent_by j st ≡ true → is_polled atn x ≡ true → stands_of of_status st ≡ true)

@@ -11,7 +11,6 @@ use lib.ListN.{length, set, length-set}
 use lib.Seq.{set-get_or}
 use borrow.Author.Tests.{eq-eqb}
 use Rattle.party.specs.Parts.{idle, one, held_bytes, with_acceptor}
-use Rattle.offer.specs.Offer.{is_full}
 use Rattle.party.specs.Driving.{is_active}
 use Rattle.party.specs.Settling.{wiped, cleared, clear_drops, change_control, settled}
 use Rattle.role.proofs.Logic.{no, test, cond-elim}
@@ -19,20 +18,19 @@ use Rattle.role.proofs.Roles.{name_of, Single, Weak, weak_unaddressed}
 use Rattle.parties.specs.Places.{place, at, each, total}
 use Rattle.parties.specs.Lines.{lines_byte}
 use Rattle.parties.proofs.Places.{upd, at_set, at_each_all, length_each, total_set, total_each, total_split}
-use Rattle.bus.specs.Types.{Place, Party, Control, Idle, Standby, Active, Acceptor, Aids, Anrs, Acrs, Acds, Empty}
-use Rattle.bus.specs.Types.{Command, Data, Status, Standing, Nothing, Byte, Bus, Said, Call, Outcome}
+use Rattle.bus.specs.Types.{Place, Party, Control, Idle, Standby, Active, Acceptor, Aids, Anrs, Acrs, Acds}
+use Rattle.bus.specs.Types.{Standing, Bus, Said, Call, Outcome}
 use Rattle.bus.specs.Types.ruling
 use Rattle.bus.specs.Types.ev
 use Rattle.bus.specs.Types.call_of
 use Rattle.bus.specs.Types.act_of
-use Rattle.effect.specs.Calls.{is_accepted}
 use Rattle.bus.specs.Record.{here, lines}
-use Rattle.effect.specs.Stands.{sends_command}
-use Rattle.effect.specs.Effects.{say, does, stay, quiet, with_standing}
+use Rattle.effect.specs.Stands.{of_command, sends_command}
+use Rattle.effect.specs.Effects.{say, stay, quiet, with_standing}
 use Rattle.bus.specs.Settling.{settle_bus, settle_bus_as, deserted, attention, settle, follow}
 use Rattle.host_calls.specs.HostCalls.{controlled, reset_acceptor, tell}
 use Rattle.refusals.specs.Refusals.{in_standby, active_refusal}
-use Rattle.bus.specs.Machine.{view_at, refusal, accepted}
+use Rattle.bus.specs.Machine.{view_at}
 use Rattle.bus.specs.Delivery.{deed, neither, is_put, is_host_put, is_take, is_end, is_write, wrote, held}
 use Rattle.bus.proofs.Invariant.{busy, active_busy, sent_by, is_command, in_acrs, is_acrs, waits, look, Inv, atn_of}
 use Rattle.bus.proofs.Invariant.{settle_inv}
@@ -41,7 +39,8 @@ use Rattle.bus.proofs.Putting.{role_heard_lem}
 use Rattle.bus.proofs.Attention.{Raw}
 use Rattle.bus.proofs.Accepting.{if_so, if_not, known, stands_dav, joining_away, joining_dav}
 use Rattle.bus.proofs.Summary.{Shape, keeps, breaks, stayed, Good, inside, set_held, seen_settled}
-use Rattle.bus.proofs.Summary.{deserted_stands, kept_good, alarm_good}
+use Rattle.bus.proofs.Summary.{Fine, Becomes, deserted_stands, kept_good, alarm_good}
+use Rattle.std.specs.Prelude.{Option, Some, None, Ok, Err, is_some}
 
 -- One party changes flags or control while no command stands: the parties are fit for attention.
 pub raw_set : (b : Bus) → Inv b → (i : ℕ) → i < b.count → (q : Party) → is_command b.standing ≡ false
@@ -71,21 +70,16 @@ pub set_len : (b : Bus) → Inv b → (i : ℕ) (q : Party) → length (set b.pa
 set_len b I i q = length-set b.parties i q ∙ I.size
 
 -- a command stands: its sender is active
-commander : (b : Bus) → Inv b → (st : Standing) → b.standing ≡ st → is_command st ≡ true
+commander : (b : Bus) → Inv b → (st : Option Standing) → b.standing ≡ st → is_command st ≡ true
     → (j : ℕ) × ((is_active (here b j) ≡ true) × (sends_command j st ≡ true))
-commander b I Nothing e h = no (cc)
-commander b I (Byte s Command v x) e h = (
-  s.0,
-  (I.pre.leads (rw e) s.0 (rw e (eq-eqb s.0 s.0 refl)), eq-eqb s.0 s.0 refl),
-)
-commander b I (Byte s Data v x) e h = no (cc)
-commander b I (Byte s Status v x) e h = no (cc)
+commander b I None e h = no (cc)
+commander b I (Some st) e h = let s = st.sender.0 in let q = eq-eqb s s refl in
+    (s, (I.pre.leads (rw e h) s (rw e q), rw h q))
 
 standby_busy : (c : Control) → in_standby c ≡ true
     → (busy c ≡ true) × (elim c [ Idle ↦ false | Standby ↦ false | Active ↦ true ] ≡ false)
-standby_busy Idle e = no (cc)
 standby_busy Standby e = (refl, refl)
-standby_busy Active e = no (cc)
+standby_busy c e = no (cc)
 
 module _ (b : Bus) (I : Inv b) (p : Place) where
   -- no command of another stands where p is in charge and sends none
@@ -101,14 +95,14 @@ module _ (b : Bus) (I : Inv b) (p : Place) where
   standing_by : is_active (here b p.0) ≡ false → sends_command p.0 b.standing ≡ false
   standing_by e = test (sends_command p.0 b.standing) (λ f. no (go b.standing refl f)) (λ f. f)
     where
-      go : (st : Standing) → b.standing ≡ st → sends_command p.0 st ≡ true → ◌≡◌ {A = ℕ} 0 1
-      go Nothing h f = cc
-      go (Byte s Command v x) h f = let z = I.pre.leads (rw h) p.0 (rw h f) in cc
-      go (Byte s Data v x) h f = cc
-      go (Byte s Status v x) h f = cc
+      go : (st : Option Standing) → b.standing ≡ st → sends_command p.0 st ≡ true → ◌≡◌ {A = ℕ} 0 1
+      go None h f = cc
+      go (Some st) h f = test (of_command st.kind)
+          (λ q. let y = rw q at f in let z = I.pre.leads (rw h q) p.0 (rw h y) in cc)
+          (λ q. let y = rw q at f in cc)
 
   -- who is in charge comes to control c: attention follows
-  controlled_good : (c : Call) (x : Control) → wrote c ruling.Accepted ≡ 0 → p.0 < b.count
+  controlled_good : (c : Call) (x : Control) → wrote c (Ok tt) ≡ 0 → p.0 < b.count
       → busy (here b p.0).control ≡ true → sends_command p.0 b.standing ≡ false
       → Good b c (attention b p.0 (with_standing b.standing (controlled x (view_at p (lines b) b))))
   controlled_good c x w l h f = alarm_good b c I (held_bytes (here b p.0)) (set b.parties p.0 new)
@@ -119,20 +113,18 @@ module _ (b : Bus) (I : Inv b) (p : Place) where
       new : Party
       new = change_control x (here b p.0)
 
-  pub take_good : is_accepted (refusal (lines b) b (call_of.Of p act_of.TakeControl)) ≡ true
-      → Good b (call_of.Of p act_of.TakeControl) (accepted (lines b) b (call_of.Of p act_of.TakeControl))
-  take_good ok = let r = known b p (cond (in_standby (here b p.0).control) ruling.Accepted ruling.Role) ok in
+  pub take_good : Fine b (call_of.Of p act_of.TakeControl)
+  take_good ok = let r = known b p (cond (in_standby (here b p.0).control) (Ok tt) (Err ruling.Role)) ok in
       let h = standby_busy (here b p.0).control
-      (if_so (in_standby (here b p.0).control) ruling.Accepted ruling.Role refl r.1).0 in
+      (if_so (in_standby (here b p.0).control) (Ok tt) (Err ruling.Role) refl r.1).0 in
       controlled_good (call_of.Of p act_of.TakeControl) Active refl r.0 h.0 (standing_by h.1)
 
-  pub standby_good : is_accepted (refusal (lines b) b (call_of.Of p act_of.GoToStandby)) ≡ true
-      → Good b (call_of.Of p act_of.GoToStandby) (accepted (lines b) b (call_of.Of p act_of.GoToStandby))
+  pub standby_good : Fine b (call_of.Of p act_of.GoToStandby)
   standby_good ok = let r = known b p (active_refusal (is_active (here b p.0)) (sends_command p.0 b.standing)) ok
       in
       let a = if_so (is_active (here b p.0))
-      (cond (sends_command p.0 b.standing) ruling.Standing ruling.Accepted) ruling.Role refl r.1 in
-      let f = (if_not (sends_command p.0 b.standing) ruling.Accepted ruling.Standing refl a.1).0 in
+      (cond (sends_command p.0 b.standing) (Err ruling.Standing) (Ok tt)) (Err ruling.Role) refl r.1 in
+      let f = (if_not (sends_command p.0 b.standing) (Ok tt) (Err ruling.Standing) refl a.1).0 in
       controlled_good (call_of.Of p act_of.GoToStandby) Standby refl r.0 (active_busy (here b p.0) a.0) f
 
   -- reset of a party that is not active
@@ -200,14 +192,13 @@ module _ (b : Bus) (I : Inv b) (p : Place) where
           (λ c s. let z = I.pre.leads c p.0 s in no (cc)) (λ a. never.0 (is_acrs new.acceptor a)) h
         where
           split : (c s a : Bool) → (c ≡ true → s ≡ true → ⊥) → (a ≡ true → ⊥) → (c && (s || a)) ≡ true → ⊥
-          split false s a f g e = no (cc)
           split true true a f g e = f refl refl
           split true false a f g e = g e
+          split false s a f g e = no (cc)
 
-  pub reset_good : is_accepted (refusal (lines b) b (call_of.Of p act_of.Reset)) ≡ true
-      → Good b (call_of.Of p act_of.Reset) (accepted (lines b) b (call_of.Of p act_of.Reset))
-  reset_good ok = let r = known b p (cond (sends_command p.0 b.standing) ruling.Standing ruling.Accepted) ok in
-      let f = (if_not (sends_command p.0 b.standing) ruling.Accepted ruling.Standing refl r.1).0 in
+  pub reset_good : Fine b (call_of.Of p act_of.Reset)
+  reset_good ok = let r = known b p (cond (sends_command p.0 b.standing) (Err ruling.Standing) (Ok tt)) ok in
+      let f = (if_not (sends_command p.0 b.standing) (Ok tt) (Err ruling.Standing) refl r.1).0 in
       cond-elim (λ (o : Outcome). Good b (call_of.Of p act_of.Reset)
       (follow (atn_of b) b p.0 (with_standing b.standing o))) (is_active (here b p.0))
       (λ e. alarm_good b (call_of.Of p act_of.Reset) I (held_bytes (here b p.0)) (set b.parties p.0 new)
@@ -224,7 +215,7 @@ module _ (b : Bus) (I : Inv b) (p : Place) where
 cleared_held : (p : Party) → held_bytes (cleared p) + clear_drops p ≡ held_bytes p
 cleared_held p = go (is_active p)
   where
-    go : (x : Bool) → one (is_full (cond x Empty p.held)) + cond x (held_bytes p) 0 ≡ held_bytes p
+    go : (x : Bool) → one (is_some (cond x None p.held)) + cond x (held_bytes p) 0 ≡ held_bytes p
     go true = omega arith
     go false = omega arith
 
@@ -274,10 +265,9 @@ module _ (b : Bus) (I : Inv b) (i : ℕ) (l : i < b.count) where
       let e = ap (λ (w : ℕ → Party). held_bytes (w i)) cleared_at in omega arith
 
 pub clear_good : (b : Bus) → Inv b → (p : Place)
-    → is_accepted (refusal (lines b) b (call_of.Of p act_of.InterfaceClear)) ≡ true
-    → Good b (call_of.Of p act_of.InterfaceClear) (accepted (lines b) b (call_of.Of p act_of.InterfaceClear))
+    → Fine b (call_of.Of p act_of.InterfaceClear)
 unfolding chief all_cleared
-clear_good b I p ok = let r = known b p (cond (eqb p.0 b.system.0) ruling.Accepted ruling.Role) ok in
+clear_good b I p ok = let r = known b p (cond (eqb p.0 b.system.0) (Ok tt) (Err ruling.Role)) ok in
     alarm_good b (call_of.Of p act_of.InterfaceClear) I
     (total b.count clear_drops b.parties + held_bytes (cleared (here b p.0)))
     (set (all_cleared b I p.0 r.0) p.0 (chief b I p.0 r.0))
@@ -286,7 +276,7 @@ clear_good b I p ok = let r = known b p (cond (eqb p.0 b.system.0) ruling.Accept
 
 -- A call that says what it finds: it changes no party and nothing that stands, and settling follows.
 report_good : (b : Bus) → Inv b → (c : Call) (s : Said) → deed s.event ≡ neither → s.dropped ≡ 0 → is_write c ≡ false
-    → Good b c (settle (atn_of b) b 0 (does s (here b 0) b.standing))
+    → Becomes b c 0 s (here b 0)
 report_good b I c s d k w = subst (λ (ps : List Party). Good b c (settle_bus (atn_of b) b s ps b.standing))
     (sym (set-get_or b.parties 0 idle)) (record {
       inv = settle_inv b (atn_of b) s b.parties b.standing I.size I.small refl I.pre;

@@ -1,7 +1,6 @@
 -- Every call keeps the invariant and has its summary; so has every call of a list. And the totals.
 -- Assumes nothing.
 use mathlib.Core.Path.{◌≡◌, refl}
-use mathlib.Core.Bool.{true}
 use mathlib.Core.List.{List, [], ◌∷◌}
 use Prim.Native.Nat.{ℕ, zero, suc, ◌+◌, ◌<◌}
 use native.Mathlib.Omega.{arith}
@@ -11,19 +10,17 @@ use Rattle.party.specs.Parts.{one}
 use Rattle.party.specs.Sending.{is_source}
 use Rattle.role.proofs.Logic.{cond-elim}
 use Rattle.bus.specs.Types.{Place, Bus, Answer, Call, Standing, Effect}
-use Rattle.bus.specs.Types.ruling
 use Rattle.bus.specs.Types.call_of
 use Rattle.bus.specs.Types.act_of
-use Rattle.effect.specs.Calls.{is_accepted}
 use Rattle.bus.specs.Record.{here, lines}
 use Rattle.effect.specs.Stands.{stands}
 use Rattle.bus.specs.Settling.{follow}
-use Rattle.bus.specs.Machine.{refusal}
+use Rattle.bus.specs.Machine.{verdict}
 use Rattle.bus.specs.Machine as m
 use Rattle.bus.specs.Delivery.{Moment, history, is_put, is_end, is_host_put, wrote, tally, held}
 use Rattle.bus.proofs.Invariant.{Inv, atn_of}
 use Rattle.bus.proofs.Accepting.{known}
-use Rattle.bus.proofs.Summary.{Good, Shape, keeps, puts, ends, breaks}
+use Rattle.bus.proofs.Summary.{Good, Fine, Shape, keeps, puts, ends, breaks}
 use Rattle.bus.proofs.OneParty.{ruled}
 use Rattle.bus.proofs.HostCalls.{write_good, read_good, poll_good, request_good, drop_good}
 use Rattle.bus.proofs.HostCalls.{out_good, mark_good, status_good, nothing_good, register_good, own_good}
@@ -32,17 +29,16 @@ use Rattle.bus.proofs.Switches.{listen_good, talk_good}
 use Rattle.bus.proofs.ControlCalls.{take_good, standby_good, reset_good, clear_good, lines_good, drivers_good}
 use Rattle.bus.proofs.AcceptorStep.{accept_good}
 use Rattle.bus.proofs.SourceStep.{source_good}
+use Rattle.std.specs.Prelude.{Option, Ok}
 
-step_good : (b : Bus) → Inv b → (p : Place) → is_accepted (refusal (lines b) b (call_of.Of p act_of.Step)) ≡ true
-    → Good b (call_of.Of p act_of.Step) (m.accepted (lines b) b (call_of.Of p act_of.Step))
-step_good b I p ok = let l = (known b p ruling.Accepted ok).0 in
+step_good : (b : Bus) → Inv b → (p : Place) → Fine b (call_of.Of p act_of.Step)
+step_good b I p ok = let l = (known b p (Ok tt) ok).0 in
     cond-elim (λ (e : Effect). Good b (call_of.Of p act_of.Step) (follow (atn_of b) b p.0 e))
     (is_source (atn_of b) (here b p.0))
     (λ so. source_good b I p l so (here b p.0).source refl)
     (λ ns. accept_good b I p l ns (here b p.0).acceptor refl)
 
-accepted_good : (b : Bus) → Inv b → (c : Call) → is_accepted (refusal (lines b) b c) ≡ true
-    → Good b c (m.accepted (lines b) b c)
+accepted_good : (b : Bus) → Inv b → (c : Call) → Fine b c
 accepted_good b I (call_of.Of p act_of.Step) = step_good b I p
 accepted_good b I (call_of.Of p (act_of.Write v e)) = write_good b I p v e
 accepted_good b I (call_of.Of p act_of.Read) = read_good b I p
@@ -66,7 +62,7 @@ accepted_good b I call_of.Lines = λ _. lines_good b I
 accepted_good b I call_of.Drivers = λ _. drivers_good b I
 
 pub call_good : (b : Bus) → Inv b → (c : Call) → Good b c (m.call b c)
-call_good b I c = ruled b c I (refusal (lines b) b c) (m.accepted (lines b) b c) (accepted_good b I c)
+call_good b I c = ruled b c I (verdict (lines b) b c) (m.accepted (lines b) b c) (accepted_good b I c)
 
 -- the invariant at the end of a list
 pub run_inv : (b : Bus) → Inv b → (cs : List Call) → Inv (m.run b cs)
@@ -93,7 +89,7 @@ first b [] d e = e
 first b (c ∷ cs) d e = refl
 
 -- the totals, from any bus
-shape_total : (st : Standing) (c : Call) (a : Answer) → Shape st c a
+shape_total : (st : Option Standing) (c : Call) (a : Answer) → Shape st c a
     → one (is_put a.event) + one (stands st) ≡ one (is_end a.event) + a.broken + one (stands a.bus.standing)
 shape_total st c a (keeps p e k s) = rw (p, e, k, s) refl
 shape_total st c a (puts p e k n r d w s) = rw (p, e, k, n, s) refl
@@ -109,7 +105,7 @@ put_total b I (c ∷ cs) = let g = call_good b I c in let h = shape_total b.stan
     let k = put_total (m.call b c).bus g.inv cs in omega arith
 
 pub byte_total : (b : Bus) → Inv b → (cs : List Call)
-    → tally (λ x. wrote x.call x.answer.refusal) (history b cs) + held b
+    → tally (λ x. wrote x.call x.answer.verdict) (history b cs) + held b
     ≡ tally (λ x. one (is_host_put x.answer.event)) (history b cs) + tally (λ x. x.answer.dropped) (history b cs)
     + held (m.run b cs)
 byte_total b I [] = refl

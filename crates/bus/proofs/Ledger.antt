@@ -12,50 +12,59 @@ use lib.ListN.{length}
 use lib.Dec.{eqb, ltb}
 use borrow.Author.Tests.{eqb-true, eqb-false, ltb-true, ltb-false}
 use Rattle.role.proofs.Logic.{no, test}
-use Rattle.bus.specs.Types.{Place, Kind, Acrs, Acds, Standing, Nothing, Byte, Bus, Call}
+use Rattle.bus.specs.Types.{Place, Kind, Acrs, Acds, Standing, Bus, Call, Answer}
 use Rattle.bus.specs.Record.{here}
 use Rattle.effect.specs.Stands.{stands}
 use Rattle.bus.specs.Delivery.{moment, bus_at, answer_at, PutAt, EndsAt, BreaksAt, StandsAt, TakesAt, ReadyAt}
-use Rattle.bus.specs.Delivery.{LeavesAt, StayedFrom, Taken, is_end}
+use Rattle.bus.specs.Delivery.{LeavesAt, StayedFrom, Taken, is_put, is_end}
 use Rattle.bus.proofs.Summary.{Good, Shape, keeps, puts, ends, breaks, Way, stayed, took, left, broke, Takes}
+use Rattle.std.specs.Prelude.{Option, Some, None}
+use Rattle.effect.specs.Stands.{sent}
 
-byte_stands : (st : Standing) (s : Place) (k : Kind) (v : ℕ) (e : Bool) → st ≡ Byte s k v e → stands st ≡ true
+byte_stands : (st : Option Standing) (s : Place) (k : Kind) (v : ℕ) (e : Bool) → st ≡ Some (sent s k v e)
+    → stands st ≡ true
 byte_stands st s k v e h = rw h
+
+-- a put finds nothing standing, and its byte stands then
+of_put : {st : Option Standing} {c : Call} {a : Answer} → Shape st c a → is_put a.event ≡ true
+    → (st ≡ None) × (s : Place) × (d : Kind) × (a.bus.standing ≡ Some (sent s d a.byte a.end))
+of_put (keeps x e k s) p = no (cc)
+of_put (puts x e k n r d c s) p = (n, r, d, s)
+of_put (ends x e k r d c n s) p = no (cc)
+of_put (breaks x e k u s) p = no (cc)
 
 module _ (b : Bus) (cs : List Call)
     (G : (k : ℕ) → k < length cs → Good (bus_at b cs k) (moment b cs k).call (answer_at b cs k))
     (L : (k : ℕ) → suc k < length cs → bus_at b cs (suc k) ≡ (answer_at b cs k).bus)
-    (S : (bus_at b cs 0).standing ≡ Nothing) where
+    (S : (bus_at b cs 0).standing ≡ None) where
   before : (i k j : ℕ) → StandsAt b cs i k → i < j → j ≤ k → StandsAt b cs i j
   before i k j h l m = (h.0, l, λ x lx mx. h.2 x lx (omega arith))
 
+  -- what stands once call k is done was put by it, or stood before it
+  abbrev Stood : ℕ → ℕ → Type 0
+  Stood i k = (i ≡ k) ⊎ ((i < k) × (k < length cs) × StandsAt b cs i k)
+
+  stood : (i k : ℕ) → StandsAt b cs i (suc k) → suc k < length cs → Stood i k
+  stood i k h l = let w = h.1 in test (eqb i k) (λ e. inl (eqb-true i k e)) (λ e.
+      let ne : (i ≡ k → ⊥) = eqb-false i k e in let lt : i < k = omega arith in
+      inr (lt, omega arith, before i (suc k) k h lt (omega arith)))
+
   -- a put finds nothing standing
-  put_none : (i : ℕ) → PutAt b cs i → (bus_at b cs i).standing ≡ Nothing
-  put_none i p = go (G i p.0).shape
-    where
-      go : Shape (bus_at b cs i).standing (moment b cs i).call (answer_at b cs i) → (bus_at b cs i).standing ≡ Nothing
-      go (keeps x e k s) = let z = p.1 in no (cc)
-      go (puts x e k n r d c s) = n
-      go (ends x e k r d c n s) = let z = p.1 in no (cc)
-      go (breaks x e k u s) = let z = p.1 in no (cc)
+  put_none : (i : ℕ) → PutAt b cs i → (bus_at b cs i).standing ≡ None
+  put_none i p = (of_put (G i p.0).shape p.1).0
 
   -- what call i put up stands when call k comes, on the bus
   abbrev Up : ℕ → ℕ → Type 0
   Up i k = (s : Place) × (d : Kind) × ((bus_at b cs k).standing
-      ≡ Byte s d (answer_at b cs i).byte (answer_at b cs i).end)
+      ≡ Some (sent s d (answer_at b cs i).byte (answer_at b cs i).end))
 
-  onwards : (k : ℕ) (st : Standing) → suc k < length cs → (answer_at b cs k).bus.standing ≡ st
+  onwards : (k : ℕ) (st : Option Standing) → suc k < length cs → (answer_at b cs k).bus.standing ≡ st
       → (bus_at b cs (suc k)).standing ≡ st
   onwards k st l e = ap (λ (x : Bus). x.standing) (L k l) ∙ e
 
   put_up : (i : ℕ) → PutAt b cs i → suc i < length cs → Up i (suc i)
-  put_up i p l = go (G i p.0).shape
-    where
-      go : Shape (bus_at b cs i).standing (moment b cs i).call (answer_at b cs i) → Up i (suc i)
-      go (keeps x e k s) = let z = p.1 in no (cc)
-      go (puts x e k n r d c s) = (r, d, onwards i (Byte r d (answer_at b cs i).byte (answer_at b cs i).end) l s)
-      go (ends x e k r d c n s) = let z = p.1 in no (cc)
-      go (breaks x e k u s) = let z = p.1 in no (cc)
+  put_up i p l = let r = of_put (G i p.0).shape p.1 in
+      (r.1, r.2, onwards i (Some (sent r.1 r.2 (answer_at b cs i).byte (answer_at b cs i).end)) l r.3)
 
   stay_up : (i k : ℕ) → suc k < length cs → (EndsAt b cs k ⊎ BreaksAt b cs k → ⊥) → Up i k → Up i (suc k)
   stay_up i k l h u = go (G k (omega arith)).shape
@@ -67,7 +76,7 @@ module _ (b : Bus) (cs : List Call)
       e' = (answer_at b cs i).end
 
       go : Shape (bus_at b cs k).standing (moment b cs k).call (answer_at b cs k) → Up i (suc k)
-      go (keeps x e o s) = (u.0, u.1, onwards k (Byte u.0 u.1 v e') l (s ∙ u.2))
+      go (keeps x e o s) = (u.0, u.1, onwards k (Some (sent u.0 u.1 v e')) l (s ∙ u.2))
       go (puts x e o n r d c s) = let z = u.2 in no (cc)
       go (ends x e o r d c n s) = absurd (h (inl e))
       go (breaks x e o w s) = absurd (h (inr o))
@@ -75,13 +84,11 @@ module _ (b : Bus) (cs : List Call)
   -- a byte that has neither ended nor been broken off stands
   up : (i k : ℕ) → StandsAt b cs i k → k < length cs → Up i k
   up i zero h l = absurd (not-suc-le-zero h.1)
-  up i (suc k) h l = go (up i k) (eqb i k) refl
+  up i (suc k) h l = go (up i k) (stood i k h l)
     where
-      go : (StandsAt b cs i k → k < length cs → Up i k) → (x : Bool) → eqb i k ≡ x → Up i (suc k)
-      go r true e = let q = eqb-true i k e in
-          subst (λ (j : ℕ). Up i (suc j)) q (put_up i h.0 (omega (arith, h.0.0)))
-      go r false e = let w = h.1 in let ne : (i ≡ k → ⊥) = eqb-false i k e in let lt : i < k = omega arith in
-          stay_up i k l (h.2 k lt (omega arith)) (r (before i (suc k) k h lt (omega arith)) (omega arith))
+      go : (StandsAt b cs i k → k < length cs → Up i k) → Stood i k → Up i (suc k)
+      go r (inl e) = subst (λ (j : ℕ). Up i (suc j)) e (put_up i h.0 (omega (arith, e, l)))
+      go r (inr s) = stay_up i k l (h.2 k s.0 (omega arith)) (r s.2 s.1)
 
   stands_at : (i k : ℕ) → StandsAt b cs i k → k < length cs → stands (bus_at b cs k).standing ≡ true
   stands_at i k h l = let u = up i k h l in byte_stands (bus_at b cs k).standing u.0 u.1 (answer_at b cs i).byte
@@ -89,15 +96,17 @@ module _ (b : Bus) (cs : List Call)
 
   extend : (i k : ℕ) → StandsAt b cs i k → is_end (answer_at b cs k).event ≡ false → (answer_at b cs k).broken ≡ 0
       → StandsAt b cs i (suc k)
-  extend i k h e o = let w = h.1 in (h.0, omega arith, λ j lj mj x. go j lj mj (eqb j k) refl x)
+  extend i k h e o = let w = h.1 in (
+    h.0,
+    omega arith,
+    λ j lj mj x. test (eqb j k)
+        (λ q. last (subst (λ (y : ℕ). EndsAt b cs y ⊎ BreaksAt b cs y) (eqb-true j k q) x))
+        (λ q. let ne : (j ≡ k → ⊥) = eqb-false j k q in h.2 j lj (omega arith) x),
+  )
     where
       last : (EndsAt b cs k ⊎ BreaksAt b cs k) → ⊥
       last (inl x) = no (cc)
       last (inr x) = no (cc)
-
-      go : (j : ℕ) → i < j → j < suc k → (x : Bool) → eqb j k ≡ x → (EndsAt b cs j ⊎ BreaksAt b cs j) → ⊥
-      go j lj mj true q x = last (subst (λ (y : ℕ). EndsAt b cs y ⊎ BreaksAt b cs y) (eqb-true j k q) x)
-      go j lj mj false q x = let ne : (j ≡ k → ⊥) = eqb-false j k q in h.2 j lj (omega arith) x
 
   -- what stands on the bus was put up by some call
   source : (k : ℕ) → k < length cs → stands (bus_at b cs k).standing ≡ true → (i : ℕ) × StandsAt b cs i k
@@ -130,7 +139,7 @@ module _ (b : Bus) (cs : List Call)
 
   waits : (p i k : ℕ) → StandsAt b cs i k → k < length cs → (here (bus_at b cs k) p).acceptor ≡ Acrs → Waits p i k
   waits p i zero h l a = absurd (not-suc-le-zero h.1)
-  waits p i (suc k) h l a = go (waits p i k) (eqb i k) refl
+  waits p i (suc k) h l a = go (waits p i k) (stood i k h l)
     where
       a' : (here (answer_at b cs k).bus p).acceptor ≡ Acrs
       a' = sym (acc_next p k l) ∙ a
@@ -143,25 +152,19 @@ module _ (b : Bus) (cs : List Call)
       }
 
       on : i < k → Waits p i k → Waits p i (suc k)
-      on lt w = record { ready = w.ready; untaken = λ j lj mj t. case j lj mj (eqb j k) refl t }
+      on lt w = record {
+        ready = w.ready;
+        untaken = λ j lj mj t. test (eqb j k) (λ q. now (subst (λ (y : ℕ). TakesAt b cs p y) (eqb-true j k q) t))
+            (λ q. let ne : (j ≡ k → ⊥) = eqb-false j k q in w.untaken j lj (omega arith) t);
+      }
         where
           now : TakesAt b cs p k → ⊥
           now t = let z = ((G k t.0).takes t.2 p t.1).to in no (cc a')
 
-          case : (j : ℕ) → i < j → j < suc k → (x : Bool) → eqb j k ≡ x → TakesAt b cs p j → ⊥
-          case j lj mj true q t = now (subst (λ (y : ℕ). TakesAt b cs p y) (eqb-true j k q) t)
-          case j lj mj false q t = let ne : (j ≡ k → ⊥) = eqb-false j k q in w.untaken j lj (omega arith) t
-
-      go : (StandsAt b cs i k → k < length cs → (here (bus_at b cs k) p).acceptor ≡ Acrs → Waits p i k) → (x : Bool)
-          → eqb i k ≡ x → Waits p i (suc k)
-      go r true e = put (eqb-true i k e)
-      go r false e =
-          let w = h.1 in
-          let ne : (i ≡ k → ⊥) = eqb-false i k e in
-          let lt : i < k = omega arith in
-          let lk : k < length cs = omega arith in
-          let st = before i (suc k) k h lt (omega arith) in
-          on lt (r st lk ((G k lk).rejoin (stands_at i k st lk) p a'))
+      go : (StandsAt b cs i k → k < length cs → (here (bus_at b cs k) p).acceptor ≡ Acrs → Waits p i k) → Stood i k
+          → Waits p i (suc k)
+      go r (inl e) = put e
+      go r (inr s) = on s.0 (r s.2 s.1 ((G k s.1).rejoin (stands_at i k s.2 s.1) p a'))
 
   -- what has become of a party that was ready
   data Since (p i k : ℕ) : Type 0 where
@@ -171,7 +174,7 @@ module _ (b : Bus) (cs : List Call)
 
   since : (p i k : ℕ) → StandsAt b cs i k → k < length cs → ReadyAt b cs p i → Since p i k
   since p i zero h l a = absurd (not-suc-le-zero h.1)
-  since p i (suc k) h l a = go (since p i k) (eqb i k) refl
+  since p i (suc k) h l a = go (since p i k) (stood i k h l)
     where
       put : i ≡ k → Since p i (suc k)
       put e = waiting (acc_next p k l ∙ subst (λ (j : ℕ). (here (answer_at b cs j).bus p).acceptor ≡ Acrs) e ((G i
@@ -188,16 +191,9 @@ module _ (b : Bus) (cs : List Call)
       on lt lk st (taking j lj mj t) = taking j lj (omega arith) t
       on lt lk st (leaving j lj mj t) = leaving j lj (omega arith) t
 
-      go : (StandsAt b cs i k → k < length cs → ReadyAt b cs p i → Since p i k) → (x : Bool) → eqb i k ≡ x
-          → Since p i (suc k)
-      go r true e = put (eqb-true i k e)
-      go r false e =
-          let w = h.1 in
-          let ne : (i ≡ k → ⊥) = eqb-false i k e in
-          let lt : i < k = omega arith in
-          let lk : k < length cs = omega arith in
-          let st = before i (suc k) k h lt (omega arith) in
-          on lt lk st (r st lk a)
+      go : (StandsAt b cs i k → k < length cs → ReadyAt b cs p i → Since p i k) → Stood i k → Since p i (suc k)
+      go r (inl e) = put e
+      go r (inr s) = on s.0 s.1 s.2 (r s.2 s.1 a)
 
   -- The fields of demand 3.
   -- who takes while the byte of call i stands takes that byte
@@ -220,15 +216,23 @@ module _ (b : Bus) (cs : List Call)
       T = (G k l).takes t.2 p t.1
 
       w : (s : Place) × (d : Kind) × ((bus_at b cs k).standing
-          ≡ Byte s d (answer_at b cs k).byte (answer_at b cs k).end)
+          ≡ Some (sent s d (answer_at b cs k).byte (answer_at b cs k).end))
       w = T.what
 
       u : Up i k
       u = up i k st l
 
-      inj : (x : Standing) (s s' : Place) (d d' : Kind) (v v' : ℕ) (e e' : Bool) → x ≡ Byte s d v e
-          → x ≡ Byte s' d' v' e' → (v ≡ v') × (e ≡ e')
-      inj x s s' d d' v v' e e' f g = (cc, cc)
+      value_of : Option Standing → ℕ
+      value_of None = 0
+      value_of (Some x) = x.value
+
+      end_of : Option Standing → Bool
+      end_of None = false
+      end_of (Some x) = x.end
+
+      inj : (x : Option Standing) (s s' : Place) (d d' : Kind) (v v' : ℕ) (e e' : Bool) → x ≡ Some (sent s d v e)
+          → x ≡ Some (sent s' d' v' e') → (v ≡ v') × (e ≡ e')
+      inj x s s' d d' v v' e e' f g = (ap value_of (sym f ∙ g), ap end_of (sym f ∙ g))
 
       same : ((answer_at b cs k).byte ≡ (answer_at b cs i).byte) × ((answer_at b cs k).end ≡ (answer_at b cs i).end)
       same = inj (bus_at b cs k).standing w.0 u.0 w.1 u.1 (answer_at b cs k).byte (answer_at b cs i).byte
@@ -238,7 +242,7 @@ module _ (b : Bus) (cs : List Call)
   taken p k t = (found.0, taken_of p k found.0 found.1 t)
     where
       w : (s : Place) × (d : Kind) × ((bus_at b cs k).standing
-          ≡ Byte s d (answer_at b cs k).byte (answer_at b cs k).end)
+          ≡ Some (sent s d (answer_at b cs k).byte (answer_at b cs k).end))
       w = ((G k t.0).takes t.2 p t.1).what
 
       found : (i : ℕ) × StandsAt b cs i k
@@ -270,10 +274,10 @@ module _ (b : Bus) (cs : List Call)
   pub ordered : (p k l i j : ℕ) → k < l → TakesAt b cs p k → Taken b cs p k i → TakesAt b cs p l → Taken b cs p l j
       → i < j
   ordered p k l i j lt tk a tl c = test (ltb i j) (λ e. ltb-true i j e)
-      (λ e. absurd (bad (ltb-false i j e) (eqb i j) refl))
+      (λ e. absurd (bad (ltb-false i j e)))
     where
-      bad : j ≤ i → (x : Bool) → eqb i j ≡ x → ⊥
-      bad m true e = let q = eqb-true i j e in
-          once_lt p i k l a.stands (subst (λ (y : ℕ). StandsAt b cs y l) (sym q) c.stands) tk tl lt
-      bad m false e = let ne : (i ≡ j → ⊥) = eqb-false i j e in let y = a.stands.1 in
-          one_put j i l c.stands a.stands.0 (omega arith) (omega arith)
+      bad : j ≤ i → ⊥
+      bad m = test (eqb i j) (λ e. let q = eqb-true i j e in
+          once_lt p i k l a.stands (subst (λ (y : ℕ). StandsAt b cs y l) (sym q) c.stands) tk tl lt)
+          (λ e. let ne : (i ≡ j → ⊥) = eqb-false i j e in let y = a.stands.1 in
+          one_put j i l c.stands a.stands.0 (omega arith) (omega arith))

@@ -32,8 +32,8 @@ of_false false h e = no (cc)
 
 pub not_false : (x : Bool) → not x ≡ false → x ≡ true
 not_false true e = refl
-not_false false e = no (cc)
+not_false x e = no (cc)
 
 pub not_true : (x : Bool) → not x ≡ true → x ≡ false
-not_true true e = no (cc)
 not_true false e = refl
+not_true x e = no (cc)

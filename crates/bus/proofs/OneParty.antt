@@ -5,31 +5,30 @@ use mathlib.Core.Path.{◌≡◌, refl, sym, ap, ◌∙◌}
 use mathlib.Core.Bool.{Bool, true, false, ◌&&◌}
 use mathlib.Core.Logic.{inl}
 use Prim.Native.Nat.{ℕ, ◌+◌, ◌<◌}
-use Rattle.offer.specs.Offer.{is_full}
 use Rattle.party.specs.Parts.{one, held_bytes, with_source}
 use Rattle.party.specs.Driving.{is_active}
 use Rattle.party.specs.Sending.{is_source, is_polled}
 use Rattle.role.proofs.Logic.{no, cond-elim}
 use Rattle.role.proofs.Roles.{name_of, Single, Weak, weak_same}
 use Rattle.parties.specs.Places.{place}
-use Rattle.bus.specs.Types.{Place, Party, Source, Strs, Aids, Anrs, Acrs, Bus, Said, Answer, Call, Refusal}
-use Rattle.bus.specs.Types.ruling
+use Rattle.bus.specs.Types.{Place, Party, Source, Strs, Aids, Anrs, Acrs, Bus, Said, Answer, Call, Verdict}
 use Rattle.bus.specs.Types.ev
 use Rattle.bus.specs.Types.call_of
 use Rattle.bus.specs.Types.act_of
 use Rattle.effect.specs.Calls.{is_accepted}
 use Rattle.bus.specs.Record.{here, lines}
 use Rattle.effect.specs.Stands.{stands}
-use Rattle.effect.specs.Effects.{say, does, stay}
+use Rattle.effect.specs.Effects.{say, stay}
 use Rattle.bus.specs.Settling.{settle}
 use Rattle.bus.specs.Machine.{view_at, judged}
 use Rattle.bus.specs.Delivery.{is_put, is_end, is_take, is_host_put, is_write, wrote}
 use Rattle.bus.proofs.Invariant.{look, Inv, atn_of}
 use Rattle.bus.proofs.Change.{Kept, weak_look}
-use Rattle.bus.proofs.Summary.{Good, Word, refused, kept_good}
+use Rattle.bus.proofs.Summary.{Good, Becomes, Word, refused, kept_good}
+use Rattle.std.specs.Prelude.{Ok, is_some}
 
 -- A call's ruling: refused it changes nothing, and accepted it is as good as what it does.
-pub ruled : (b : Bus) (c : Call) → Inv b → (r : Refusal) (a : Answer) → (is_accepted r ≡ true → Good b c a)
+pub ruled : (b : Bus) (c : Call) → Inv b → (r : Verdict) (a : Answer) → (is_accepted r ≡ true → Good b c a)
     → Good b c (judged r b a)
 ruled b c I r a f = cond-elim (Good b c) (is_accepted r) f (λ e. refused b c r I (rw e (nothing (is_write c))))
   where
@@ -46,7 +45,7 @@ pub record Plain (p q : Party) : Type 0 where
   pub role : q.role ≡ p.role
   pub control : q.control ≡ p.control
   pub acceptor : q.acceptor ≡ p.acceptor
-  pub input : is_full p.input ≡ false → is_full q.input ≡ false
+  pub input : is_some p.input ≡ false → is_some q.input ≡ false
   pub strs : q.source ≡ Strs → p.source ≡ Strs
   pub stst : p.source ≡ Strs → q.source ≡ Strs
 
@@ -61,7 +60,7 @@ pub record Seated (b : Bus) (i : ℕ) (q : Party) : Type 0 where
   pub listens : atn_of b ≡ false → q.role.listen ≡ false → q.acceptor ≡ Aids
   pub joins : atn_of b ≡ false → q.role.listen ≡ true → q.acceptor ≡ Aids → ⊥
   pub apart : Single q.role
-  pub empty : atn_of b ≡ false → q.acceptor ≡ Acrs → is_full q.input ≡ false
+  pub empty : atn_of b ≡ false → q.acceptor ≡ Acrs → is_some q.input ≡ false
   pub polled : (here b i).source ≡ Strs → is_polled (atn_of b) q ≡ true → is_polled (atn_of b) (here b i) ≡ true
   pub polls : (here b i).source ≡ Strs → is_source (atn_of b) q ≡ true
       → (is_source (atn_of b) (here b i) ≡ true) × (is_polled (atn_of b) (here b i) ≡ true
@@ -89,8 +88,8 @@ module _ (b : Bus) (c : Call) (I : Inv b) (i : ℕ) (l : i < b.count) where
 
   pub plain_good : (s : Said) (q : Party) → Plain (here b i) q → Caller c i
       → is_put s.event ≡ false → is_end s.event ≡ false → is_take s.event ≡ false
-      → wrote c ruling.Accepted + held_bytes (here b i) ≡ one (is_host_put s.event) + s.dropped + held_bytes q
-      → Good b c (settle (atn_of b) b i (does s q b.standing))
+      → wrote c (Ok tt) + held_bytes (here b i) ≡ one (is_host_put s.event) + s.dropped + held_bytes q
+      → Becomes b c i s q
   plain_good s q H k ip ie it w = kept_good b c I i l s q (plain_kept q H)
       (weak_look (here b) b.standing i q (weak_same (look b.standing i (here b i)) (look b.standing i q)
       (rw (H.role, H.acceptor))) I.pre.heard)
@@ -106,7 +105,7 @@ module _ (b : Bus) (c : Call) (I : Inv b) (i : ℕ) (l : i < b.count) where
       })
 
   pub seated_good : (s : Said) (q : Party) → Seated b i q → Word b c i s q
-      → Good b c (settle (atn_of b) b i (does s q b.standing))
+      → Becomes b c i s q
   seated_good s q S W = kept_good b c I i l s q
       (record {
         name = S.name;

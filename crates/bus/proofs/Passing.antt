@@ -17,7 +17,7 @@ use Rattle.role.proofs.Logic.{no, test, cond-elim}
 use Rattle.role.proofs.Roles.{name_of, Single, hear_single, hear_name, hear_passes}
 use Rattle.parties.specs.Places.{at, total, other_talker}
 use Rattle.parties.proofs.Places.{upd, at_set, total_set, first_found}
-use Rattle.bus.specs.Types.{Place, Party, Role, Idle, Active, Sgns, At, Command, Nothing, Byte, Bus, After}
+use Rattle.bus.specs.Types.{Place, Party, Role, Idle, Active, Sgns, Command, Bus, After}
 use Rattle.bus.specs.Types.ev
 use Rattle.bus.specs.Types.call_of
 use Rattle.bus.specs.Types.act_of
@@ -31,9 +31,11 @@ use Rattle.bus.proofs.Change.{upd_all, Unique, upd_unique, same_apart}
 use Rattle.bus.proofs.Attention.{Raw}
 use Rattle.bus.proofs.Summary.{Good, inside, set_held, pass_good}
 use Rattle.bus.proofs.ControlCalls.{set_len}
+use Rattle.std.specs.Prelude.{Some, None}
+use Rattle.effect.specs.Stands.{sent}
 
 module _ (b : Bus) (I : Inv b) (p : Place) (l : p.0 < b.count) (v : ℕ) (e : Bool)
-    (es : b.standing ≡ Byte p Command v e) (nd : (lines b).ndac ≡ false) (em : passes_control (meaning_of v)
+    (es : b.standing ≡ Some (sent p Command v e)) (nd : (lines b).ndac ≡ false) (em : passes_control (meaning_of v)
     ≡ true) where
   heard : Party
   heard = with_source Sgns (party_heard v (here b p.0))
@@ -118,7 +120,7 @@ module _ (b : Bus) (I : Inv b) (p : Place) (l : p.0 < b.count) (v : ℕ) (e : Bo
         let g = ap held_bytes (get_or-set_other b.parties p.0 j old idle other) in omega arith
 
     passed_good : (z : After) → Good b (call_of.Of p act_of.Step) (pass b p.0
-        (record { said = say ev.Ended v e 0; after = z; party = heard; standing = Nothing }) j)
+        (record { said = say ev.Ended v e 0; after = z; party = heard; standing = None }) j)
     unfolding old new heard
     passed_good z = pass_good b I p Command (held_bytes (here b p.0) + held_bytes (here b j)) v e
         (set (set b.parties p.0 old) j new)
@@ -126,13 +128,13 @@ module _ (b : Bus) (I : Inv b) (p : Place) (l : p.0 < b.count) (v : ℕ) (e : Bo
         (subst (λ (w : ℕ → Party). Raw b.count w) (sym both_set) raw)
         es nd dropped
 
-  pub pass_to_lem : (z : After) (j : Place) → other_talker b.count p.0 b.parties ≡ At j
+  pub pass_to_lem : (z : After) (j : Place) → other_talker b.count p.0 b.parties ≡ Some j
       → Good b (call_of.Of p act_of.Step) (pass b p.0
       (record {
         said = say ev.Ended v e 0;
         after = z;
         party = with_source Sgns (party_heard v (here b p.0));
-        standing = Nothing;
+        standing = None;
       }) j.0)
   unfolding heard
   pass_to_lem z j h = let r = first_found 0 b.count (λ x. x.role.talk) (set b.parties p.0 idle) j h in

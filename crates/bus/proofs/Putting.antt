@@ -8,7 +8,6 @@ use native.Mathlib.Omega.{arith}
 use lib.Dec.{ltb, eqb}
 use borrow.Author.Tests.{eqb-true, eqb-false, eq-eqb, ltb-true, ltb-false}
 use Rattle.party.specs.Parts.{idle}
-use Rattle.offer.specs.Offer.{is_full}
 use Rattle.party.specs.Driving.{is_active, nrfd_at, drives_nrfd}
 use Rattle.role.specs.Roles.{role_heard}
 use Rattle.party.specs.Sending.{is_source, is_polled}
@@ -17,27 +16,31 @@ use Rattle.role.proofs.Roles.{name_of, Apart, live, Addressed, hear_name, hear_a
 use Rattle.party.proofs.Settled.{source_case}
 use Rattle.parties.specs.Places.{place}
 use Rattle.parties.proofs.Places.{upd}
-use Rattle.bus.specs.Types.{Party, Sgns, Strs, Acceptor, Aids, Anrs, Acrs, Acds, Awns, Kind, Role, Standing}
-use Rattle.bus.specs.Types.{Nothing, Byte}
+use Rattle.bus.specs.Types.{Party, Sgns, Strs, Acceptor, Aids, Anrs, Acrs, Kind, Role, Standing}
 use Rattle.effect.specs.Stands.{of_command}
-use Rattle.bus.proofs.Invariant.{busy, active_busy, sent_by, of_status, of_data, is_command, code_of, in_acrs, is_acrs}
+use Rattle.bus.proofs.Invariant.{one_sender, busy, active_busy, sent_by, of_status, of_data, is_command, code_of}
+use Rattle.bus.proofs.Invariant.{in_acrs, is_acrs}
 use Rattle.bus.proofs.Invariant.{waits, look, look_idle, same_heard, Pre, Quiet}
 use Rattle.bus.proofs.Change.{upd_all, Unique, upd_unique, upd_apart}
+use Rattle.std.specs.Prelude.{Option, Some, None, is_some}
+use Rattle.effect.specs.Stands.{sent}
 
 -- with ATN false nothing that stands is a command
-pub off_command : (n : ℕ) (atn : Bool) (v : ℕ → Party) (st : Standing) → Pre n atn v st → atn ≡ false
+pub off_command : (n : ℕ) (atn : Bool) (v : ℕ → Party) (st : Option Standing) → Pre n atn v st → atn ≡ false
     → is_command st ≡ false
-off_command n atn v Nothing P e = refl
-off_command n atn v (Byte s k w x) P e = P.kind refl ∙ e
+off_command n atn v None P e = refl
+off_command n atn v (Some st) P e = P.kind refl ∙ e
 
 -- where no command stands, what holds once all have heard holds of the roles as they are
-pub role_heard_lem : (n : ℕ) (atn : Bool) (v : ℕ → Party) (st : Standing) → Pre n atn v st → is_command st ≡ false
+pub role_heard_lem : (n : ℕ) (atn : Bool) (v : ℕ → Party) (st : Option Standing) → Pre n atn v st
+    → is_command st ≡ false
     → Addressed atn (λ j. (v j).role)
 role_heard_lem n atn v st P c = same_heard (λ j. (v j).role) (λ j. look st j (v j)) (λ j. sym (look_idle st c j (v j)))
     P.heard
 
 -- at most one party is a source
-pub source_unique : (n : ℕ) (atn : Bool) (v : ℕ → Party) (st : Standing) → Pre n atn v st → Unique (is_source atn) v
+pub source_unique : (n : ℕ) (atn : Bool) (v : ℕ → Party) (st : Option Standing) → Pre n atn v st
+    → Unique (is_source atn) v
 source_unique n atn v st P i j e f = go (source_case atn (v i) e) (source_case atn (v j) f)
   where
     go : (is_active (v i) ≡ true) ⊎ ((atn ≡ false) × ((v i).role.talk ≡ true))
@@ -48,33 +51,32 @@ source_unique n atn v st P i j e f = go (source_case atn (v i) e) (source_case a
     go (inr a) (inr b) = (role_heard_lem n atn v st P (off_command n atn v st P a.0)).one i j a.1 b.1
 
 -- while a source is not in STRS nothing stands
-pub nothing_stands : (n : ℕ) (atn : Bool) (v : ℕ → Party) (st : Standing) → Pre n atn v st → Quiet atn v → (i : ℕ)
-    → is_source atn (v i) ≡ true → ((v i).source ≡ Strs → ⊥) → st ≡ Nothing
-nothing_stands n atn v Nothing P Q i e h = refl
-nothing_stands n atn v (Byte s k w x) P Q i e h = absurd (h (rw same at strs))
+pub nothing_stands : (n : ℕ) (atn : Bool) (v : ℕ → Party) (st : Option Standing) → Pre n atn v st → Quiet atn v
+    → (i : ℕ)
+    → is_source atn (v i) ≡ true → ((v i).source ≡ Strs → ⊥) → st ≡ None
+nothing_stands n atn v None P Q i e h = refl
+nothing_stands n atn v (Some st) P Q i e h = absurd (h (rw same at strs))
   where
-    strs : (v s.0).source ≡ Strs
-    strs = P.sent s.0 (eq-eqb s.0 s.0 refl)
+    strs : (v st.sender.0).source ≡ Strs
+    strs = P.sent st.sender.0 (eq-eqb st.sender.0 st.sender.0 refl)
 
-    src : is_source atn (v s.0) ≡ true
-    src = test (is_source atn (v s.0)) (λ a. a) (λ a. let z = Q s.0 a in no (cc strs))
+    src : is_source atn (v st.sender.0) ≡ true
+    src = test (is_source atn (v st.sender.0)) (λ a. a) (λ a. let z = Q st.sender.0 a in no (cc strs))
 
-    same : s.0 ≡ i
-    same = source_unique n atn v (Byte s k w x) P s.0 i src e
+    same : st.sender.0 ≡ i
+    same = source_unique n atn v (Some st) P st.sender.0 i src e
 
 -- who does not hold NRFD and takes part is ready
 no_nrfd : (a : Acceptor) → nrfd_at a ≡ false → (a ≡ Aids → ⊥) → in_acrs a ≡ true
 no_nrfd Aids e h = absurd (h refl)
-no_nrfd Anrs e h = no (cc)
 no_nrfd Acrs e h = refl
-no_nrfd Acds e h = no (cc)
-no_nrfd Awns e h = no (cc)
+no_nrfd a e h = no (cc)
 
-pub look_on : (st : Standing) (j : ℕ) (p : Party) → waits st j p.acceptor ≡ true
+pub look_on : (st : Option Standing) (j : ℕ) (p : Party) → waits st j p.acceptor ≡ true
     → look st j p ≡ role_heard (code_of st) p.role
 look_on st j p e = rw e
 
-pub look_off : (st : Standing) (j : ℕ) (p : Party) → waits st j p.acceptor ≡ false → look st j p ≡ p.role
+pub look_off : (st : Option Standing) (j : ℕ) (p : Party) → waits st j p.acceptor ≡ false → look st j p ≡ p.role
 look_off st j p e = rw e
 
 -- a byte with the END that its kind allows, from a sender of that kind
@@ -84,11 +86,11 @@ pub record Fit (atn : Bool) (q : Party) (k : Kind) (y : Bool) : Type 0 where
   pub plain : y ≡ true → of_data k ≡ true
   pub status : of_status k ≡ is_polled atn q
 
-pub put_pre : (n : ℕ) (atn : Bool) (v : ℕ → Party) → Pre n atn v Nothing → (i : ℕ) → i < n
+pub put_pre : (n : ℕ) (atn : Bool) (v : ℕ → Party) → Pre n atn v None → (i : ℕ) → i < n
     → (q : Party) (k : Kind) (x : ℕ) (y : Bool)
     → q.role ≡ (v i).role → q.control ≡ (v i).control → q.acceptor ≡ (v i).acceptor → q.input ≡ (v i).input
     → q.source ≡ Strs
-    → Fit atn q k y → ((j : ℕ) → drives_nrfd (v j) ≡ false) → Pre n atn (upd v i q) (Byte (place i) k x y)
+    → Fit atn q k y → ((j : ℕ) → drives_nrfd (v j) ≡ false) → Pre n atn (upd v i q) (Some (sent (place i) k x y))
 put_pre n atn v P i l q k x y er ec eb ei es F nrfd = record {
   tail = tailed;
   atn_if = upd_all v i q (λ j x. is_active x ≡ true → atn ≡ true) (λ h. P.atn_if i (sym act ∙ h)) (λ j ne. P.atn_if j);
@@ -111,15 +113,15 @@ put_pre n atn v P i l q k x y er ec eb ei es F nrfd = record {
       base (code_of st) (all c))
       (λ c. same_heard (λ j. look st j (upd v i q j)) roles (λ j. look_idle st c j (upd v i q j)) base);
   apart = upd_all v i q (λ j x. Single x.role) (rw er (P.apart i)) (λ j ne. P.apart j);
-  empty = λ t. upd_all v i q (λ j x. x.acceptor ≡ Acrs → is_full x.input ≡ false)
-      (λ h. ap is_full ei ∙ P.empty t i (sym eb ∙ h)) (λ j ne. P.empty t j);
+  empty = λ t. upd_all v i q (λ j x. x.acceptor ≡ Acrs → is_some x.input ≡ false)
+      (λ h. ap is_some ei ∙ P.empty t i (sym eb ∙ h)) (λ j ne. P.empty t j);
   plain = F.plain;
   polled = sender (λ x. is_polled atn x ≡ true → of_status k ≡ true) (λ h. F.status ∙ h);
   polls = sender (λ x. of_status k ≡ true → is_source atn x ≡ true → is_polled atn x ≡ true) (λ h s. sym F.status ∙ h);
 }
   where
-    st : Standing
-    st = Byte (place i) k x y
+    st : Option Standing
+    st = Some (sent (place i) k x y)
 
     roles : ℕ → Role
     roles j = (upd v i q j).role
@@ -184,18 +186,18 @@ put_pre n atn v P i l q k x y er ec eb ei es F nrfd = record {
         (λ e. let z = gone j (ltb-false j n e) in no (cc))
 
 -- a byte ends, and a command is heard by its sender
-pub end_pre : (n : ℕ) (atn : Bool) (v : ℕ → Party) (st : Standing) → Pre n atn v st → (i : ℕ) → i < n
+pub end_pre : (n : ℕ) (atn : Bool) (v : ℕ → Party) (st : Option Standing) → Pre n atn v st → (i : ℕ) → i < n
     → sent_by i st ≡ true → (q : Party)
     → q.role ≡ look st i (v i) → q.control ≡ (v i).control → q.acceptor ≡ (v i).acceptor → q.input ≡ (v i).input
     → q.source ≡ Sgns
-    → ((j : ℕ) → (v j).acceptor ≡ Acrs → ⊥) → Pre n atn (upd v i q) Nothing
+    → ((j : ℕ) → (v j).acceptor ≡ Acrs → ⊥) → Pre n atn (upd v i q) None
 end_pre n atn v st P i l s q er ec eb ei es na = record {
   tail = upd_all v i q (λ j x. n ≤ j → x ≡ idle) (λ h. absurd (bad h)) (λ j ne. P.tail j);
   atn_if = upd_all v i q (λ j x. is_active x ≡ true → atn ≡ true) (λ h. P.atn_if i (sym act ∙ h)) (λ j ne. P.atn_if j);
   charge = upd_unique v i q (λ x. busy x.control) P.charge (λ h j e ne. ne (P.charge j i e (rw ec at h)));
   addr = upd_apart n v i q (ap name_of er ∙ named) P.addr;
   sends = upd_all v i q (λ j x. x.source ≡ Strs → false ≡ true) (λ h. no (cc))
-      (λ j ne h. absurd (ne (only st s j (P.sends j h))));
+      (λ j ne h. absurd (ne (one_sender st j i (P.sends j h) s)));
   sent = λ j h. no (cc);
   kind = λ h. no (cc);
   leads = λ h. no (cc);
@@ -213,8 +215,8 @@ end_pre n atn v st P i l s q er ec eb ei es na = record {
   heard = same_heard (λ j. (upd v i q j).role) (λ j. look st j (v j))
       (upd_all v i q (λ j x. x.role ≡ look st j (v j)) er (λ j ne. sym (look_off st j (v j) (done j ne)))) P.heard;
   apart = upd_all v i q (λ j x. Single x.role) (rw er single) (λ j ne. P.apart j);
-  empty = λ t. upd_all v i q (λ j x. x.acceptor ≡ Acrs → is_full x.input ≡ false)
-      (λ h. ap is_full ei ∙ P.empty t i (sym eb ∙ h)) (λ j ne. P.empty t j);
+  empty = λ t. upd_all v i q (λ j x. x.acceptor ≡ Acrs → is_some x.input ≡ false)
+      (λ h. ap is_some ei ∙ P.empty t i (sym eb ∙ h)) (λ j ne. P.empty t j);
   plain = λ h. no (cc);
   polled = λ j h. no (cc);
   polls = λ j h. no (cc);
@@ -234,17 +236,12 @@ end_pre n atn v st P i l s q er ec eb ei es na = record {
     single = cond-elim Single (waits st i (v i).acceptor) (λ _. hear_single (code_of st) (v i).role (P.apart i))
         (λ _. P.apart i)
 
-    only : (st : Standing) → sent_by i st ≡ true → (j : ℕ) → sent_by j st ≡ true → j ≡ i
-    only Nothing e j f = no (cc)
-    only (Byte r k w x) e j f = eqb-true j r.0 f ∙ sym (eqb-true i r.0 e)
-
     -- everyone else has heard
     done : (j : ℕ) → (j ≡ i → ⊥) → waits st j (v j).acceptor ≡ false
-    done j ne = nor (is_command st) (sent_by j st) (in_acrs (v j).acceptor) (λ h. ne (only st s j h))
+    done j ne = nor (is_command st) (sent_by j st) (in_acrs (v j).acceptor) (λ h. ne (one_sender st j i h s))
         (λ h. na j (is_acrs (v j).acceptor h))
       where
         nor : (c x y : Bool) → (x ≡ true → ⊥) → (y ≡ true → ⊥) → (c && (x || y)) ≡ false
-        nor false x y f g = refl
         nor true true y f g = absurd (f refl)
         nor true false true f g = absurd (g refl)
-        nor true false false f g = refl
+        nor c x y f g = refl

@@ -5,14 +5,12 @@ use mathlib.Core.Bool.{Bool, true, false}
 use mathlib.Core.List.{List}
 use Prim.Native.Nat.{ℕ}
 use borrow.Author.Tests.{eq-eqb}
-use Rattle.offer.specs.Offer.{is_full}
 use Rattle.party.specs.Sending.{is_source, is_polled}
 use Rattle.party.specs.Settling.{settled}
 use Rattle.role.proofs.Logic.{no, test, cond-elim}
 use Rattle.party.proofs.Settled.{settled_source}
-use Rattle.bus.specs.Types.{Place, Name, Party, Sids, Strs, Aids, Acrs, Kind, Command, Data, Status, Byte, Bus}
+use Rattle.bus.specs.Types.{Place, Name, Party, Sids, Strs, Aids, Acrs, Kind, Status, Bus}
 use Rattle.bus.specs.Types.{Answer, Call, After, Effect}
-use Rattle.bus.specs.Types.ruling
 use Rattle.bus.specs.Types.after
 use Rattle.effect.specs.Calls.{is_accepted, place_of}
 use Rattle.accepted.specs.Accepted.{effect_of}
@@ -24,36 +22,34 @@ use Rattle.bus.proofs.Invariant.{sent_by, of_status, of_data, stands_of, Inv, at
 use Rattle.bus.proofs.Putting.{source_unique}
 use Rattle.bus.proofs.Built.{built_inv}
 use Rattle.bus.proofs.EachCall.{run_inv}
+use Rattle.std.specs.Prelude.{Some, Ok, is_some}
+use Rattle.effect.specs.Stands.{sent}
 
 -- a refused call leaves the bus, whatever bus it is
-pub refused_leaves : (b : Bus) (c : Call) → is_accepted (m.call b c).refusal ≡ false → (m.call b c).bus ≡ b
+pub refused_leaves : (b : Bus) (c : Call) → is_accepted (m.call b c).verdict ≡ false → (m.call b c).bus ≡ b
 refused_leaves b c =
     let l = lines b in
     let e = effect_of (m.view_at (place_of c) l b) c in
-    cond-elim (λ (a : Answer). is_accepted a.refusal ≡ false → a.bus ≡ b) (is_accepted (m.refusal l b c))
+    cond-elim (λ (a : Answer). is_accepted a.verdict ≡ false → a.bus ≡ b) (is_accepted (m.verdict l b c))
     (λ _. followed_accepted e.after e)
     (λ _ _. refl)
   where
     followed_accepted : (x : After) (e : Effect) → let a = followed x (lines b).atn b (place_of c).0 e in
-        is_accepted a.refusal ≡ false → a.bus ≡ b
+        is_accepted a.verdict ≡ false → a.bus ≡ b
     followed_accepted after.Settle e h = no (cc)
-    followed_accepted (after.Pass j) e h = no (cc)
-    followed_accepted after.Attend e h = no (cc)
-    followed_accepted after.Clear e h = no (cc)
-    followed_accepted after.Poll e h = no (cc)
+    followed_accepted x e h = no (cc)
 
 -- the bus keeps the invariant
-pub reached : (xs : List Name) (s : Place) → (build_extended xs s).refusal ≡ ruling.Accepted → (cs : List Call)
+pub reached : (xs : List Name) (s : Place) → (build_extended xs s).verdict ≡ Ok tt → (cs : List Call)
     → Inv (m.run (build_extended xs s).bus cs)
-reached xs s ok cs = cond-elim (λ (a : Answer). a.refusal ≡ ruling.Accepted → Inv (m.run a.bus cs)) (bad_build xs s)
+reached xs s ok cs = cond-elim (λ (a : Answer). a.verdict ≡ Ok tt → Inv (m.run a.bus cs)) (bad_build xs s)
     (λ _ r. no (cc))
     (λ e _. run_inv (built xs s) (built_inv xs s e) cs)
     ok
 
 status_kind : (k : Kind) → of_status k ≡ true → k ≡ Status
-status_kind Command e = no (cc)
-status_kind Data e = no (cc)
 status_kind Status e = refl
+status_kind k e = no (cc)
 
 module _ (b : Bus) (I : Inv b) where
   -- a source is never in SIDS, and any other party is
@@ -84,10 +80,10 @@ module _ (b : Bus) (I : Inv b) where
   never_both = I.pre.apart
 
   -- a ready acceptor of data has its data-in empty
-  pub ready_has_room : atn_of b ≡ false → (j : ℕ) → (here b j).acceptor ≡ Acrs → is_full (here b j).input ≡ false
+  pub ready_has_room : atn_of b ≡ false → (j : ℕ) → (here b j).acceptor ≡ Acrs → is_some (here b j).input ≡ false
   ready_has_room = I.pre.empty
 
-  module _ (s : Place) (k : Kind) (v : ℕ) (e : Bool) (st : b.standing ≡ Byte s k v e) where
+  module _ (s : Place) (k : Kind) (v : ℕ) (e : Bool) (st : b.standing ≡ Some (sent s k v e)) where
     its_sender : sent_by s.0 b.standing ≡ true
     its_sender = rw st (eq-eqb s.0 s.0 refl)
 

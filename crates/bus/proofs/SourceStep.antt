@@ -7,7 +7,7 @@ use Prim.Native.Nat.{ℕ, ◌+◌, ◌<◌}
 use native.Mathlib.Omega.{arith}
 use borrow.Author.Tests.{eqb-true}
 use Rattle.message.specs.Meaning.{meaning_of}
-use Rattle.offer.specs.Offer.{is_full, kind_of, end_of}
+use Rattle.offer.specs.Offer.{kind_of, end_of}
 use Rattle.party.specs.Parts.{one, held_bytes, with_source}
 use Rattle.party.specs.Driving.{is_active, drives_nrfd}
 use Rattle.role.specs.Roles.{role_heard, passes_control}
@@ -16,8 +16,8 @@ use Rattle.role.proofs.Logic.{no, cond-elim}
 use Rattle.party.proofs.Settled.{source_case}
 use Rattle.parties.specs.Places.{place, other_talker}
 use Rattle.parties.proofs.Places.{some_none}
-use Rattle.bus.specs.Types.{Place, Party, Source, Sids, Sgns, Sdys, Strs, Slot, Empty, Full, Kind, Command, Data}
-use Rattle.bus.specs.Types.{Status, Event, Found, Nowhere, At, Standing, Nothing, Byte, Bus, After, Effect, View}
+use Rattle.bus.specs.Types.{Place, Party, Source, Sids, Sgns, Sdys, Strs, Byte, Kind, Command, Data}
+use Rattle.bus.specs.Types.{Status, Event, Standing, Bus, After, Effect, View}
 use Rattle.bus.specs.Types.ev
 use Rattle.bus.specs.Types.after
 use Rattle.bus.specs.Types.call_of
@@ -25,7 +25,7 @@ use Rattle.bus.specs.Types.act_of
 use Rattle.bus.specs.Record.{here, lines}
 use Rattle.effect.specs.Stands.{of_command}
 use Rattle.effect.specs.Effects.{say, does, stay, moved}
-use Rattle.source_step.specs.SourceStep.{put, noacc, ready, pass_to, ended, source_in}
+use Rattle.source_step.specs.SourceStep.{put, noacc, ready, pass_to, ended, ended_byte, source_in}
 use Rattle.bus.specs.Settling.{settle, follow}
 use Rattle.bus.specs.Machine.{view_at}
 use Rattle.bus.specs.Delivery.{is_put, is_end, is_take, is_host_put}
@@ -34,6 +34,9 @@ use Rattle.bus.proofs.Putting.{Fit, put_pre, end_pre, nothing_stands, look_on}
 use Rattle.bus.proofs.Summary.{Good, put_good, end_good, none_ready}
 use Rattle.bus.proofs.OneParty.{plain_good, plain_same, plain_source, step_caller, stay_good}
 use Rattle.bus.proofs.Passing.{pass_to_lem}
+use Rattle.std.specs.Prelude.{Option, Some, None, is_some}
+use Rattle.effect.specs.Stands.{sent}
+use Rattle.offer.specs.Offer.{byte}
 
 -- the kinds
 kind_command : (x y : Bool) → kind_of x y ≡ Command → x ≡ true
@@ -42,14 +45,12 @@ kind_command false true e = no (cc)
 kind_command false false e = no (cc)
 
 kind_data : (x y : Bool) → kind_of x y ≡ Data → (x ≡ false) × (y ≡ false)
-kind_data true y e = no (cc)
-kind_data false true e = no (cc)
 kind_data false false e = (refl, refl)
+kind_data x y e = no (cc)
 
 kind_status : (x y : Bool) → kind_of x y ≡ Status → (x ≡ false) × (y ≡ true)
-kind_status true y e = no (cc)
 kind_status false true e = (refl, refl)
-kind_status false false e = no (cc)
+kind_status x y e = no (cc)
 
 atn_unpolled : (t : Bool) (p : Party) → t ≡ true → is_polled t p ≡ false
 atn_unpolled t p e = rw e
@@ -65,7 +66,7 @@ module _ (b : Bus) (I : Inv b) (p : Place) (l : p.0 < b.count) (so : is_source (
   kind : Kind
   kind = kind_of (is_active (here b p.0)) (is_polled (atn_of b) (here b p.0))
 
-  talker : Found
+  talker : Option Place
   talker = other_talker b.count p.0 b.parties
 
   -- a source that is not active talks with ATN false
@@ -79,8 +80,8 @@ module _ (b : Bus) (I : Inv b) (p : Place) (l : p.0 < b.count) (so : is_source (
 
   -- a byte that is not the status byte comes out of the held register
   from_held : (v : ℕ) (e : Bool) → is_polled (atn_of b) (here b p.0) ≡ false
-      → offer (is_polled (atn_of b) (here b p.0)) (here b p.0) ≡ Full v e → held_bytes (here b p.0) ≡ 1
-  from_held v e n o = ap (λ (s : Slot). one (is_full s)) (sym (held n) ∙ o)
+      → offer (is_polled (atn_of b) (here b p.0)) (here b p.0) ≡ Some (byte v e) → held_bytes (here b p.0) ≡ 1
+  from_held v e n o = ap (λ (s : Option Byte). one (is_some s)) (sym (held n) ∙ o)
     where
       held : is_polled (atn_of b) (here b p.0) ≡ false
           → offer (is_polled (atn_of b) (here b p.0)) (here b p.0) ≡ (here b p.0).held
@@ -105,21 +106,21 @@ module _ (b : Bus) (I : Inv b) (p : Place) (l : p.0 < b.count) (so : is_source (
         → new.acceptor ≡ (here b p.0).acceptor → new.input ≡ (here b p.0).input → new.source ≡ Strs
         → Fit (atn_of b) new k y → (lines b).nrfd ≡ false
         → held_bytes (here b p.0) ≡ one (is_host_put x) + held_bytes new
-        → Good b (call_of.Of p act_of.Step) (settle (atn_of b) b p.0 (does (say x v y 0) new (Byte p k v y)))
+        → Good b (call_of.Of p act_of.Step) (settle (atn_of b) b p.0 (does (say x v y 0) new (Some (sent p k v y))))
     put_with x new k v y ip ie it er ec eb ei es F nr w = put_good b I p l x new k v y ip ie it none (rw ec) eb
         (rw (ec, er) so) w
         (put_pre b.count (atn_of b) (here b)
-        (subst (λ (st : Standing). Pre b.count (atn_of b) (here b) st) none I.pre) p.0 l new k v y er ec eb
+        (subst (λ (st : Option Standing). Pre b.count (atn_of b) (here b) st) none I.pre) p.0 l new k v y er ec eb
         ei es F (some_none b.count drives_nrfd b.parties refl I.pre.tail nr))
       where
         not_strs : (here b p.0).source ≡ Strs → ⊥
         not_strs e = no (cc)
 
-        none : b.standing ≡ Nothing
+        none : b.standing ≡ None
         none = nothing_stands b.count (atn_of b) (here b) b.standing I.pre (quiet b I) p.0 so not_strs
 
     put_kind : (k : Kind) (v : ℕ) (e : Bool) → kind ≡ k
-        → offer (is_polled (atn_of b) (here b p.0)) (here b p.0) ≡ Full v e → (lines b).nrfd ≡ false
+        → offer (is_polled (atn_of b) (here b p.0)) (here b p.0) ≡ Some (byte v e) → (lines b).nrfd ≡ false
         → G (put k v e seen)
     unfolding kind G
     put_kind Command v e ek eo nr =
@@ -143,36 +144,39 @@ module _ (b : Bus) (I : Inv b) (p : Place) (l : p.0 < b.count) (so : is_source (
     noacc_good k v e = plain_good b (call_of.Of p act_of.Step) I p.0 l (say ev.Noacc v (end_of k e) 0) (here b p.0)
         (plain_same (here b p.0)) (step_caller b I p l) refl refl refl refl
 
-    ready_good : (o : Slot) → offer (is_polled (atn_of b) (here b p.0)) (here b p.0) ≡ o → G (ready o kind seen)
-    ready_good Empty eo = moves Sgns (λ e. no (cc)) (λ e. no (cc))
-    ready_good (Full v e) eo = cond-elim G (lines b).nrfd (λ _. stays)
-        (λ nr. cond-elim G (lines b).ndac (λ _. put_kind kind v e refl eo nr) (λ _. noacc_good kind v e))
+    ready_good : (o : Option Byte) → offer (is_polled (atn_of b) (here b p.0)) (here b p.0) ≡ o → G (ready o kind seen)
+    ready_good None eo = moves Sgns (λ e. no (cc)) (λ e. no (cc))
+    ready_good (Some y) eo = cond-elim G (lines b).nrfd (λ _. stays)
+        (λ nr. cond-elim G (lines b).ndac (λ _. put_kind kind y.value y.end refl eo nr)
+        (λ _. noacc_good kind y.value y.end))
 
   -- The byte ends: party p sent it, and nobody is left to take it.
   module _ (st : (here b p.0).source ≡ Strs) (nd : (lines b).ndac ≡ false) where
     mine : sent_by p.0 b.standing ≡ true
     mine = I.pre.sends p.0 st
 
-    its_sender : (s : Place) (k : Kind) (v : ℕ) (e : Bool) → b.standing ≡ Byte s k v e → b.standing ≡ Byte p k v e
-    its_sender s k v e es = es ∙ ap (λ (x : ℕ). Byte (place x) k v e) (sym (eqb-true p.0 s.0 (rw es at mine)))
+    its_sender : (s : Place) (k : Kind) (v : ℕ) (e : Bool) → b.standing ≡ Some (sent s k v e)
+        → b.standing ≡ Some (sent p k v e)
+    its_sender s k v e es = es ∙ ap (λ (x : ℕ). Some (sent (place x) k v e)) (sym (eqb-true p.0 s.0 (rw es at mine)))
 
-    over_good : (q : Party) (k : Kind) (v : ℕ) (e : Bool) → b.standing ≡ Byte p k v e
+    over_good : (q : Party) (k : Kind) (v : ℕ) (e : Bool) → b.standing ≡ Some (sent p k v e)
         → q.role ≡ look b.standing p.0 (here b p.0) → q.control ≡ (here b p.0).control
         → q.acceptor ≡ (here b p.0).acceptor → q.input ≡ (here b p.0).input → q.held ≡ (here b p.0).held
         → q.source ≡ Sgns
-        → Good b (call_of.Of p act_of.Step) (settle (atn_of b) b p.0 (does (say ev.Ended v e 0) q Nothing))
+        → Good b (call_of.Of p act_of.Step) (settle (atn_of b) b p.0 (does (say ev.Ended v e 0) q None))
     over_good q k v e es er ec eb ei eh eo = end_good b I p l q k v e es nd (rw ec) eb eh
         (end_pre b.count (atn_of b) (here b) b.standing I.pre p.0 l mine q er ec eb ei eo
         (none_ready b I nd))
 
     -- data and status bytes
-    plain_end : (k : Kind) (v : ℕ) (e : Bool) → of_command k ≡ false → b.standing ≡ Byte p k v e
+    plain_end : (k : Kind) (v : ℕ) (e : Bool) → of_command k ≡ false → b.standing ≡ Some (sent p k v e)
         → Good b (call_of.Of p act_of.Step)
-        (settle (atn_of b) b p.0 (does (say ev.Ended v e 0) (with_source Sgns (here b p.0)) Nothing))
+        (settle (atn_of b) b p.0 (does (say ev.Ended v e 0) (with_source Sgns (here b p.0)) None))
     plain_end k v e n es = over_good (with_source Sgns (here b p.0)) k v e es
         (sym (look_idle b.standing (rw es n) p.0 (here b p.0))) refl refl refl refl refl
 
-    command_end : (v : ℕ) (e : Bool) → b.standing ≡ Byte p Command v e → G (ended (Byte p Command v e) seen)
+    command_end : (v : ℕ) (e : Bool) → b.standing ≡ Some (sent p Command v e)
+        → G (ended (Some (sent p Command v e)) seen)
     unfolding G talker
     command_end v e es = go talker refl (passes_control (meaning_of v)) refl
       where
@@ -184,26 +188,29 @@ module _ (b : Bus) (I : Inv b) (p : Place) (l : p.0 < b.count) (so : is_source (
 
         just : (z : After) → Good b (call_of.Of p act_of.Step)
             (settle (atn_of b) b p.0
-            (record { said = say ev.Ended v e 0; after = z; party = heard; standing = Nothing }))
+            (record { said = say ev.Ended v e 0; after = z; party = heard; standing = None }))
         just z = over_good heard Command v e es (sym own) refl refl refl refl refl
 
-        go : (x : Found) → talker ≡ x → (z : Bool) → passes_control (meaning_of v) ≡ z
-            → G (record { said = say ev.Ended v e 0; after = pass_to z x; party = heard; standing = Nothing })
-        go Nowhere h z ez = just after.Settle
-        go (At j) h false ez = just after.Settle
-        go (At j) h true ez = pass_to_lem b I p l v e es nd ez (after.Pass j) j h
+        go : (x : Option Place) → talker ≡ x → (z : Bool) → passes_control (meaning_of v) ≡ z
+            → G (record { said = say ev.Ended v e 0; after = pass_to z x; party = heard; standing = None })
+        go None h z ez = just after.Settle
+        go (Some j) h false ez = just after.Settle
+        go (Some j) h true ez = pass_to_lem b I p l v e es nd ez (after.Pass j) j h
 
-    ended_good : (x : Standing) → b.standing ≡ x → G (ended x seen)
+    ended_good : (x : Option Standing) → b.standing ≡ x → G (ended x seen)
     unfolding G
-    ended_good Nothing es = stay_good b I p l
-    ended_good (Byte s Command v e) es = command_end v e (its_sender s Command v e es)
-    ended_good (Byte s Data v e) es = plain_end Data v e refl (its_sender s Data v e es)
-    ended_good (Byte s Status v e) es = plain_end Status v e refl (its_sender s Status v e es)
+    ended_good None es = stay_good b I p l
+    ended_good (Some st) es = go st.kind es
+      where
+        go : (k : Kind) → b.standing ≡ Some (sent st.sender k st.value st.end) → G (ended_byte k st.value st.end seen)
+        go Command es = command_end st.value st.end (its_sender st.sender Command st.value st.end es)
+        go Data es = plain_end Data st.value st.end refl (its_sender st.sender Data st.value st.end es)
+        go Status es = plain_end Status st.value st.end refl (its_sender st.sender Status st.value st.end es)
 
   by_state : (x : Source) → (here b p.0).source ≡ x
       → G (source_in x (offer (is_polled (atn_of b) (here b p.0)) (here b p.0)) kind seen)
   by_state Sids ex = stays
-  by_state Sgns ex = cond-elim G (is_full (offer (is_polled (atn_of b) (here b p.0)) (here b p.0)))
+  by_state Sgns ex = cond-elim G (is_some (offer (is_polled (atn_of b) (here b p.0)) (here b p.0)))
       (λ _. moves Sdys (λ e. no (cc)) (λ e. no (cc))) (λ _. stays)
   by_state Sdys ex = ready_good ex (offer (is_polled (atn_of b) (here b p.0)) (here b p.0)) refl
   by_state Strs ex = cond-elim G (lines b).ndac (λ _. stays) (λ nd. ended_good ex nd b.standing refl)

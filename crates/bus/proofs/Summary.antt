@@ -14,17 +14,18 @@ use Rattle.party.specs.Parts.{idle, one, held_bytes}
 use Rattle.party.specs.Driving.{is_active, drives_ndac}
 use Rattle.party.specs.Sending.{is_source}
 use Rattle.party.specs.Settling.{settled}
-use Rattle.role.proofs.Logic.{no}
+use Rattle.role.proofs.Logic.{no, test}
 use Rattle.role.proofs.Roles.{Addressed}
 use Rattle.parties.specs.Places.{place, at, some, each, total}
 use Rattle.parties.proofs.Places.{upd, Tail, at_set, at_each_all, some_set, some_none, total_set, total_each}
-use Rattle.bus.specs.Types.{Place, Party, Acrs, Acds, Full, Kind, Event, Standing, Nothing, Byte, Bus, Said}
-use Rattle.bus.specs.Types.{Answer, Call, Refusal}
-use Rattle.bus.specs.Types.ruling
+use Rattle.bus.specs.Types.{Place, Party, Acrs, Acds, Kind, Event, Standing, Bus, Said}
+use Rattle.bus.specs.Types.{Answer, Call, Verdict}
 use Rattle.bus.specs.Types.ev
 use Rattle.bus.specs.Types.call_of
 use Rattle.bus.specs.Types.act_of
-use Rattle.bus.specs.Record.{here, refuse}
+use Rattle.bus.specs.Record.{here, lines, silent}
+use Rattle.bus.specs.Machine.{verdict, accepted}
+use Rattle.effect.specs.Calls.{is_accepted}
 use Rattle.effect.specs.Stands.{stands}
 use Rattle.effect.specs.Effects.{say, does}
 use Rattle.bus.specs.Settling.{settle_bus_as, attend, deserted, settle}
@@ -32,16 +33,19 @@ use Rattle.bus.specs.Delivery.{is_put, is_end, is_take, is_host_put, wrote, held
 use Rattle.bus.proofs.Invariant.{look, Pre, Inv, atn_of, settled_idle, settle_inv}
 use Rattle.bus.proofs.Change.{keep_pre, Kept, upd_all}
 use Rattle.bus.proofs.Attention.{Raw, attend_inv, no_taker, attend_held}
+use Rattle.std.specs.Prelude.{Option, Some, None, Ok}
+use Rattle.effect.specs.Stands.{sent}
+use Rattle.offer.specs.Offer.{byte}
 
 -- What a call does to the standing byte: keeps it, puts one up, ends it, or breaks it off.
-pub data Shape (st : Standing) (c : Call) (a : Answer) : Type 0 where
+pub data Shape (st : Option Standing) (c : Call) (a : Answer) : Type 0 where
   keeps : is_put a.event ≡ false → is_end a.event ≡ false → a.broken ≡ 0 → a.bus.standing ≡ st → Shape st c a
-  puts : is_put a.event ≡ true → is_end a.event ≡ false → a.broken ≡ 0 → st ≡ Nothing → (s : Place) (k : Kind)
-      → c ≡ call_of.Of s act_of.Step → a.bus.standing ≡ Byte s k a.byte a.end → Shape st c a
+  puts : is_put a.event ≡ true → is_end a.event ≡ false → a.broken ≡ 0 → st ≡ None → (s : Place) (k : Kind)
+      → c ≡ call_of.Of s act_of.Step → a.bus.standing ≡ Some (sent s k a.byte a.end) → Shape st c a
   ends : is_put a.event ≡ false → is_end a.event ≡ true → a.broken ≡ 0 → (s : Place) (k : Kind)
-      → c ≡ call_of.Of s act_of.Step → st ≡ Byte s k a.byte a.end → a.bus.standing ≡ Nothing → Shape st c a
+      → c ≡ call_of.Of s act_of.Step → st ≡ Some (sent s k a.byte a.end) → a.bus.standing ≡ None → Shape st c a
   breaks : is_put a.event ≡ false → is_end a.event ≡ false → a.broken ≡ 1 → stands st ≡ true
-      → a.bus.standing ≡ Nothing → Shape st c a
+      → a.bus.standing ≡ None → Shape st c a
 
 -- by call c party j leaves, if it is accepted
 abbrev pub Left : Call → ℕ → Type 0
@@ -55,21 +59,21 @@ Taking c x j = (c ≡ call_of.Of (place j) act_of.Step) × (is_take x ≡ true)
 pub data Way (c : Call) (a : Answer) (j : ℕ) : Type 0 where
   stayed : (here a.bus j).acceptor ≡ Acrs → Way c a j
   took : Taking c a.event j → Way c a j
-  left : a.refusal ≡ ruling.Accepted → Left c j → Way c a j
+  left : a.verdict ≡ Ok tt → Left c j → Way c a j
   broke : a.broken ≡ 1 → Way c a j
 
 pub record Takes (b : Bus) (a : Answer) (j : ℕ) : Type 0 where
   pub from : (here b j).acceptor ≡ Acrs
   pub to : (here a.bus j).acceptor ≡ Acds
-  pub what : (s : Place) × (k : Kind) × (b.standing ≡ Byte s k a.byte a.end)
-  pub input : a.event ≡ ev.Took → (here a.bus j).input ≡ Full a.byte a.end
+  pub what : (s : Place) × (k : Kind) × (b.standing ≡ Some (sent s k a.byte a.end))
+  pub input : a.event ≡ ev.Took → (here a.bus j).input ≡ Some (byte a.byte a.end)
 
 -- The call c on the bus b, with the answer a.
 pub record Good (b : Bus) (c : Call) (a : Answer) : Type 0 where
   pub inv : Inv a.bus
   pub shape : Shape b.standing c a
   -- the account of host bytes
-  pub bytes : wrote c a.refusal + held b ≡ one (is_host_put a.event) + a.dropped + held a.bus
+  pub bytes : wrote c a.verdict + held b ≡ one (is_host_put a.event) + a.dropped + held a.bus
   -- a taking event is a step from ACRS to ACDS that takes what stands
   pub takes : is_take a.event ≡ true → (j : ℕ) → c ≡ call_of.Of (place j) act_of.Step → Takes b a j
   -- and nothing else leads from ACRS to ACDS
@@ -83,7 +87,7 @@ pub record Good (b : Bus) (c : Call) (a : Answer) : Type 0 where
   pub last : is_end a.event ≡ true → (j : ℕ) → (here b j).acceptor ≡ Acrs → ⊥
 
 -- A refused call.
-pub refused : (b : Bus) (c : Call) (r : Refusal) → Inv b → wrote c r ≡ 0 → Good b c (refuse r b)
+pub refused : (b : Bus) (c : Call) (r : Verdict) → Inv b → wrote c r ≡ 0 → Good b c (silent r b)
 refused b c r I w = record {
   inv = I;
   shape = keeps refl refl refl refl;
@@ -95,6 +99,14 @@ refused b c r I w = record {
   ready = λ h. no (cc);
   last = λ h. no (cc);
 }
+
+-- what is to show of a call that is accepted
+abbrev pub Fine : Bus → Call → Type 0
+Fine b c = is_accepted (verdict (lines b) b c) ≡ true → Good b c (accepted (lines b) b c)
+
+-- and of one by which party i becomes q while what stands stays, with an answer that says s
+abbrev pub Becomes : Bus → Call → ℕ → Said → Party → Type 0
+Becomes b c i s q = Good b c (settle (atn_of b) b i (does s q b.standing))
 
 -- the parties after settling
 pub seen_settled : (b : Bus) (t : Bool) (ps : List Party) → length ps ≡ 15 → b.count ≤ 15 → Tail b.count ps
@@ -133,7 +145,7 @@ module _ (b : Bus) (I : Inv b) (i : ℕ) (l : i < b.count) (q : Party) where
       held_bytes (here b i) ≡ held b + held_bytes q
   changed_held t = rw (total_each b.count held_bytes (settled t) (set b.parties i q) (λ p. refl)) set_held
 
-  pub touch_inv : (s : Said) (st : Standing) → is_active q ≡ is_active (here b i)
+  pub touch_inv : (s : Said) (st : Option Standing) → is_active q ≡ is_active (here b i)
       → Pre b.count (atn_of b) (upd (here b) i q) st → Inv (settle (atn_of b) b i (does s q st)).bus
   touch_inv s st e P = settle_inv b (atn_of b) s (set b.parties i q) st (length-set b.parties i q ∙ I.size)
       I.small (some_set b.count is_active b.parties i q e)
@@ -146,23 +158,23 @@ module _ (b : Bus) (I : Inv b) (i : ℕ) (l : i < b.count) (q : Party) where
 pub record Word (b : Bus) (c : Call) (i : ℕ) (s : Said) (q : Party) : Type 0 where
   pub not_put : is_put s.event ≡ false
   pub not_end : is_end s.event ≡ false
-  pub acct : wrote c ruling.Accepted + held_bytes (here b i) ≡ one (is_host_put s.event) + s.dropped + held_bytes q
+  pub acct : wrote c (Ok tt) + held_bytes (here b i) ≡ one (is_host_put s.event) + s.dropped + held_bytes q
   pub caller : (j : ℕ) → c ≡ call_of.Of (place j) act_of.Step → j ≡ i
   pub takes : is_take s.event ≡ true → ((here b i).acceptor ≡ Acrs) × (q.acceptor ≡ Acds) × ((r : Place) × (k : Kind)
-      × (b.standing ≡ Byte r k s.byte s.end)) × (s.event ≡ ev.Took → q.input ≡ Full s.byte s.end)
+      × (b.standing ≡ Some (sent r k s.byte s.end))) × (s.event ≡ ev.Took → q.input ≡ Some (byte s.byte s.end))
   pub silent : (here b i).acceptor ≡ Acrs → q.acceptor ≡ Acds → Taking c s.event i
   pub rejoin : stands b.standing ≡ true → q.acceptor ≡ Acrs → (here b i).acceptor ≡ Acrs
   pub leaves : stands b.standing ≡ true → (here b i).acceptor ≡ Acrs
       → (q.acceptor ≡ Acrs) ⊎ Taking c s.event i ⊎ Left c i
 
-pub deserted_stands : (t : Bool) (ps : List Party) (st : Standing) → deserted t ps st ≡ true → stands st ≡ true
-deserted_stands t ps Nothing e = e
-deserted_stands t ps (Byte s k v x) e = refl
+pub deserted_stands : (t : Bool) (ps : List Party) (st : Option Standing) → deserted t ps st ≡ true → stands st ≡ true
+deserted_stands t ps None e = e
+deserted_stands t ps (Some st) e = refl
 
 pub kept_good : (b : Bus) (c : Call) → Inv b → (i : ℕ) → i < b.count → (s : Said) (q : Party)
     → Kept (atn_of b) b.standing (here b i) q
     → Addressed (atn_of b) (λ j. look b.standing j (upd (here b) i q j))
-    → Word b c i s q → Good b c (settle (atn_of b) b i (does s q b.standing))
+    → Word b c i s q → Becomes b c i s q
 kept_good b c I i l s q K o W = record {
   inv = touch_inv b I i l q s b.standing K.act
       (keep_pre b.count (atn_of b) (here b) b.standing I.pre i l q K o);
@@ -171,7 +183,8 @@ kept_good b c I i l s q K o W = record {
   takes = λ h j e. taking h j (W.caller j e);
   silent = λ j e f. acds j e (sym (acc j) ∙ f);
   rejoin = λ h j e. back h j (sym (acc j) ∙ e);
-  leaves = λ h j. out h j (eqb j i) refl;
+  leaves = λ h j k. test (eqb j i) (λ e. way j (eqb-true j i e) (W.leaves h (rw (eqb-true j i e) at k)))
+      (λ e. let o : (upd (here b) i q j).acceptor ≡ (here b j).acceptor = rw e in stayed (acc j ∙ o ∙ k));
   ready = λ h. let z = W.not_put in no (cc);
   last = λ h. let z = W.not_end in no (cc);
 }
@@ -215,13 +228,6 @@ kept_good b c I i l s q K o W = record {
     way j e (inr (inl h)) = took (rw e h)
     way j e (inr (inr h)) = left refl (rw e h)
 
-    out : stands b.standing ≡ true → (j : ℕ) (x : Bool) → eqb j i ≡ x → (here b j).acceptor ≡ Acrs → Way c a j
-    out h j true e k = way j (eqb-true j i e) (W.leaves h (rw (eqb-true j i e) at k))
-    out h j false e k = stayed (acc j ∙ other ∙ k)
-      where
-        other : (upd (here b) i q j).acceptor ≡ (here b j).acceptor
-        other = rw e
-
 -- Party i becomes q, its acceptor as it was: the other acceptors too are as they were.
 module _ (b : Bus) (I : Inv b) (i : ℕ) (l : i < b.count) (q : Party) (eq : q.acceptor ≡ (here b i).acceptor) where
   same_acc : (t : Bool) (j : ℕ) → (at (each b.count (settled t) (set b.parties i q)) j).acceptor ≡ (here b j
@@ -231,15 +237,15 @@ module _ (b : Bus) (I : Inv b) (i : ℕ) (l : i < b.count) (q : Party) (eq : q.a
 
 -- A byte is put.
 pub put_good : (b : Bus) → Inv b → (p : Place) → p.0 < b.count → (x : Event) (q : Party) (k : Kind) (v : ℕ) (e : Bool)
-    → is_put x ≡ true → is_end x ≡ false → is_take x ≡ false → b.standing ≡ Nothing
+    → is_put x ≡ true → is_end x ≡ false → is_take x ≡ false → b.standing ≡ None
     → is_active q ≡ is_active (here b p.0) → q.acceptor ≡ (here b p.0).acceptor → is_source (atn_of b) q ≡ true
     → held_bytes (here b p.0) ≡ one (is_host_put x) + held_bytes q
-    → Pre b.count (atn_of b) (upd (here b) p.0 q) (Byte p k v e)
-    → Good b (call_of.Of p act_of.Step) (settle (atn_of b) b p.0 (does (say x v e 0) q (Byte p k v e)))
+    → Pre b.count (atn_of b) (upd (here b) p.0 q) (Some (sent p k v e))
+    → Good b (call_of.Of p act_of.Step) (settle (atn_of b) b p.0 (does (say x v e 0) q (Some (sent p k v e))))
 put_good b I p l x q k v e ip ie it st ac eq so w P = record {
-  inv = touch_inv b I p.0 l q (say x v e 0) (Byte p k v e) ac P;
+  inv = touch_inv b I p.0 l q (say x v e 0) (Some (sent p k v e)) ac P;
   shape = subst (λ (y : Bool). Shape b.standing (call_of.Of p act_of.Step)
-      (settle_bus_as t (not y) b (say x v e 0) qs (Byte p k v e))) (sym ok) (puts ip ie refl st p k refl refl);
+      (settle_bus_as t (not y) b (say x v e 0) qs (Some (sent p k v e)))) (sym ok) (puts ip ie refl st p k refl refl);
   bytes = let h = changed_held b I p.0 l q t in omega arith;
   takes = λ h. no (cc);
   silent = λ j f g. let z = acc j in no (cc);
@@ -273,12 +279,12 @@ none_ready b I e j h = let z = some_none b.count drives_ndac b.parties refl I.pr
 
 -- A byte ends.
 pub end_good : (b : Bus) → Inv b → (p : Place) → p.0 < b.count → (q : Party) (k : Kind) (v : ℕ) (e : Bool)
-    → b.standing ≡ Byte p k v e → some b.count drives_ndac b.parties ≡ false
+    → b.standing ≡ Some (sent p k v e) → some b.count drives_ndac b.parties ≡ false
     → is_active q ≡ is_active (here b p.0) → q.acceptor ≡ (here b p.0).acceptor → q.held ≡ (here b p.0).held
-    → Pre b.count (atn_of b) (upd (here b) p.0 q) Nothing
-    → Good b (call_of.Of p act_of.Step) (settle (atn_of b) b p.0 (does (say ev.Ended v e 0) q Nothing))
+    → Pre b.count (atn_of b) (upd (here b) p.0 q) None
+    → Good b (call_of.Of p act_of.Step) (settle (atn_of b) b p.0 (does (say ev.Ended v e 0) q None))
 end_good b I p l q k v e st nd ac eq eh P = record {
-  inv = touch_inv b I p.0 l q (say ev.Ended v e 0) Nothing ac P;
+  inv = touch_inv b I p.0 l q (say ev.Ended v e 0) None ac P;
   shape = ends refl refl refl p k refl st refl;
   bytes = let h = changed_held b I p.0 l q t in let k : held_bytes q ≡ held_bytes (here b p.0) = rw eh refl in
       omega arith;
@@ -298,7 +304,7 @@ end_good b I p l q k v e st nd ac eq eh P = record {
 
 -- A call that attention follows breaks off what stands.
 pub alarm_good : (b : Bus) (c : Call) → Inv b → (d : ℕ) (ps : List Party) → length ps ≡ 15 → Raw b.count (at ps)
-    → wrote c ruling.Accepted + held b ≡ d + total b.count held_bytes ps
+    → wrote c (Ok tt) + held b ≡ d + total b.count held_bytes ps
     → Good b c (attend b (say ev.None 0 false d) ps b.standing)
 alarm_good b c I d ps z R w = record {
   inv = attend_inv b s ps b.standing z I.small R;
@@ -315,23 +321,23 @@ alarm_good b c I d ps z R w = record {
     s : Said
     s = say ev.None 0 false d
 
-    shape : (st : Standing) → Shape st c (attend b (say ev.None 0 false d) ps st)
-    shape Nothing = keeps refl refl refl refl
-    shape (Byte r k v x) = breaks refl refl refl refl refl
+    shape : (st : Option Standing) → Shape st c (attend b (say ev.None 0 false d) ps st)
+    shape None = keeps refl refl refl refl
+    shape (Some st) = breaks refl refl refl refl refl
 
 -- Control is passed: the command ends, and attention follows.
 pub pass_good : (b : Bus) → Inv b → (p : Place) (k : Kind) (d v : ℕ) (e : Bool) (ps : List Party) → length ps ≡ 15
     → Raw b.count (at ps)
-    → b.standing ≡ Byte p k v e → some b.count drives_ndac b.parties ≡ false
+    → b.standing ≡ Some (sent p k v e) → some b.count drives_ndac b.parties ≡ false
     → held b ≡ d + total b.count held_bytes ps
-    → Good b (call_of.Of p act_of.Step) (attend b (say ev.Passed v e d) ps Nothing)
+    → Good b (call_of.Of p act_of.Step) (attend b (say ev.Passed v e d) ps None)
 pass_good b I p k d v e ps z R st nd w = record {
-  inv = attend_inv b s ps Nothing z I.small R;
+  inv = attend_inv b s ps None z I.small R;
   shape = ends refl refl refl p k refl st refl;
-  bytes = let h = attend_held b s ps Nothing z I.small R in omega arith;
+  bytes = let h = attend_held b s ps None z I.small R in omega arith;
   takes = λ h. no (cc);
-  silent = λ j a f. absurd (no_taker b s ps Nothing z I.small R j (inr f));
-  rejoin = λ h j f. absurd (no_taker b s ps Nothing z I.small R j (inl f));
+  silent = λ j a f. absurd (no_taker b s ps None z I.small R j (inr f));
+  rejoin = λ h j f. absurd (no_taker b s ps None z I.small R j (inl f));
   leaves = λ h j f. absurd (none_ready b I nd j f);
   ready = λ h. no (cc);
   last = λ h j f. none_ready b I nd j f;

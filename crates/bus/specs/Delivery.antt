@@ -7,8 +7,7 @@ use Rattle.std.specs.Prelude.{◌≡◌, Bool, true, false, ◌&&◌, ◌||◌, 
 use Rattle.std.specs.Prelude.{get_or, take}
 use Rattle.party.specs.Parts.{one, held_bytes}
 use Rattle.parties.specs.Places.{place, total}
-use Rattle.bus.specs.Types.{Place, Name, Active, Strs, Acrs, Acds, Full, Event, Bus, Answer, Call, Refusal}
-use Rattle.bus.specs.Types.ruling
+use Rattle.bus.specs.Types.{Place, Name, Active, Strs, Acrs, Acds, Event, Bus, Answer, Call, Verdict}
 use Rattle.bus.specs.Types.ev
 use Rattle.bus.specs.Types.call_of
 use Rattle.bus.specs.Types.act_of
@@ -16,6 +15,8 @@ use Rattle.effect.specs.Calls.{is_accepted, act_number}
 use Rattle.bus.specs.Record.{here, accept, build_extended}
 use Rattle.effect.specs.Stands.{stands}
 use Rattle.bus.specs.Machine as m
+use Rattle.std.specs.Prelude.{Some, Ok}
+use Rattle.offer.specs.Offer.{byte}
 
 -- What an event says of a byte: "A byte is put up by a step with event cmd, data or stat"; "event took, heard, clear or
 -- trigger"; "event ended or passed (it ended accepted)".
@@ -59,7 +60,7 @@ is_write call_of.Lines = false
 is_write call_of.Drivers = false
 
 -- "Host bytes accepted are the accepted writes."
-abbrev pub wrote : Call → Refusal → ℕ
+abbrev pub wrote : Call → Verdict → ℕ
 wrote c r = one (is_write c && is_accepted r)
 
 -- One call of a list: the bus that it got, and its answer.
@@ -128,7 +129,7 @@ module _ (b : Bus) (cs : List Call) where
 
   -- "an accepted listen-only off", "an accepted reset of it": by call k party p leaves.
   abbrev pub LeavesAt : ℕ → ℕ → Type 0
-  LeavesAt p k = ((answer_at k).refusal ≡ ruling.Accepted)
+  LeavesAt p k = ((answer_at k).verdict ≡ Ok tt)
       × (((moment k).call ≡ call_of.Of (place p) (act_of.ListenOnly 0))
       ⊎ ((moment k).call ≡ call_of.Of (place p) act_of.Reset))
 
@@ -152,8 +153,8 @@ module _ (b : Bus) (cs : List Call) where
     pub value : (answer_at k).byte ≡ (answer_at i).byte
     pub end : (answer_at k).end ≡ (answer_at i).end
     -- "and for took also those then in data-in"
-    pub input : (answer_at k).event ≡ ev.Took → (here (answer_at k).bus p).input ≡ Full (answer_at i).byte (answer_at i
-        ).end
+    pub input : (answer_at k).event ≡ ev.Took → (here (answer_at k).bus p).input
+        ≡ Some (byte (answer_at i).byte (answer_at i).end)
 
   -- Demand 3 for this list.
   pub record Delivered : Type 0 where
@@ -183,12 +184,12 @@ module _ (b : Bus) (cs : List Call) where
         + one (stands last_bus.standing)
     -- "host bytes accepted = bytes put up without status bytes + dropped + held"
     pub bytes :
-        tally (λ x. wrote x.call x.answer.refusal) (history b cs)
+        tally (λ x. wrote x.call x.answer.verdict) (history b cs)
         ≡ tally (λ x. one (is_host_put x.answer.event)) (history b cs)
         + tally (λ x. x.answer.dropped) (history b cs) + held last_bus
 
 -- Demand 3: "For every list of steps and host calls (any order, refused ones included, no build) from a bus that an
 -- accepted build gave", with secondaries or without.
 abbrev pub Delivery : Type 0
-Delivery = (names : List Name) (system : Place) → (build_extended names system).refusal ≡ ruling.Accepted
+Delivery = (names : List Name) (system : Place) → (build_extended names system).verdict ≡ Ok tt
     → (cs : List Call) → Delivered (build_extended names system).bus cs

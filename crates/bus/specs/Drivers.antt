@@ -6,7 +6,7 @@ use Rattle.party.specs.Driving.{is_active, drives_dav, drives_nrfd, drives_ndac,
 use Rattle.parties.specs.Places.{within}
 use Rattle.parties.specs.Lines.{mask, how_many}
 use Rattle.effect.specs.Stands.{sends_end}
-use Rattle.bus.specs.Types.{Masks, Counts, Bus, Drivers}
+use Rattle.bus.specs.Types.{EachLine, Bus, Drivers}
 use Rattle.bus.specs.Types.call_of
 use Rattle.bus.specs.Record.{here}
 use Rattle.bus.specs.Machine as m
@@ -33,7 +33,7 @@ mask_of l b = mask (within b.count) (drives l b)
 abbrev pub drivers_of : Line → Bus → ℕ
 drivers_of l b = how_many (within b.count) (drives l b)
 
-abbrev pub masks : Bus → Masks
+abbrev pub masks : Bus → EachLine ℕ
 masks b = record {
   atn = mask_of Atn b;
   dav = mask_of Dav b;
@@ -43,7 +43,7 @@ masks b = record {
   srq = mask_of Srq b;
 }
 
-abbrev pub counts : Bus → Counts
+abbrev pub counts : Bus → EachLine ℕ
 counts b = record {
   atn = drivers_of Atn b;
   dav = drivers_of Dav b;

@@ -2,7 +2,7 @@
 -- call. docs/MACHINE.md tells it in words, in the order in which to read.
 --
 --   view_at      below           what a call sees of the bus, made once
---   refusal     below           which refusal a call meets, in document 01's order: `judge` in crates/refusals/specs
+--   verdict     below           which refusal a call meets, in document 01's order: `judge` in crates/refusals/specs
 --   accepted    below           if it meets none: an effect on its party, and what follows on that
 --     effect_of  crates/accepted/specs, over crates/source_step/specs, crates/acceptor_step/specs and
 --               crates/host_calls/specs; their words in crates/effect/specs
@@ -16,20 +16,20 @@
 --   the table   crates/message/specs (what a command byte means)
 --   numbers     crates/effect/specs/Calls.antt (of a refusal), crates/event/specs/Words.antt (an event's word)
 -- Assumes nothing.
-use Rattle.std.specs.Prelude.{cond, List, [], ◌∷◌, eqb}
+use Rattle.std.specs.Prelude.{Bool, List, [], ◌∷◌, eqb, cond}
 use Rattle.parties.specs.Places.{other_talker}
 use Rattle.effect.specs.Calls.{is_accepted, place_of}
 use Rattle.refusals.specs.Refusals.{is_inside, judge}
 use Rattle.registers.specs.declared.Access.{Access}
 use Rattle.registers.specs.Registers.{stands_for}
 use Rattle.accepted.specs.Accepted.{effect_of}
-use Rattle.bus.specs.Types.{Place, Lines, Bus, Answer, Call, Refusal, View}
+use Rattle.bus.specs.Types.{Place, EachLine, Bus, Answer, Call, Verdict, View}
 use Rattle.bus.specs.Types.call_of
-use Rattle.bus.specs.Record.{here, lines, refuse}
+use Rattle.bus.specs.Record.{here, lines, silent}
 use Rattle.bus.specs.Settling.{follow}
 
 -- What a call of the party at place p sees of the bus, with the lines as it finds them.
-abbrev pub view_at : Place → Lines → Bus → View
+abbrev pub view_at : Place → EachLine Bool → Bus → View
 view_at p l b = record {
   lines = l;
   standing = b.standing;
@@ -40,21 +40,21 @@ view_at p l b = record {
   chief = eqb p.0 b.system.0;
 }
 
--- Which refusal a call meets.
-abbrev pub refusal : Lines → Bus → Call → Refusal
-refusal l b c = judge (view_at (place_of c) l b) c
+-- Which refusal a call meets, if any.
+abbrev pub verdict : EachLine Bool → Bus → Call → Verdict
+verdict l b c = judge (view_at (place_of c) l b) c
 
 -- If it meets none: its effect on its party, and what follows on that.
-abbrev pub accepted : Lines → Bus → Call → Answer
+abbrev pub accepted : EachLine Bool → Bus → Call → Answer
 accepted l b c = follow l.atn b (place_of c).0 (effect_of (view_at (place_of c) l b) c)
 
 -- A refused call leaves the bus as it found it.
-abbrev pub judged : Refusal → Bus → Answer → Answer
-judged r b a = cond (is_accepted r) a (refuse r b)
+abbrev pub judged : Verdict → Bus → Answer → Answer
+judged v b a = cond (is_accepted v) a (silent v b)
 
 -- A call reads the lines once.
-abbrev pub call_in : Lines → Bus → Call → Answer
-call_in l b c = judged (refusal l b c) b (accepted l b c)
+abbrev pub call_in : EachLine Bool → Bus → Call → Answer
+call_in l b c = judged (verdict l b c) b (accepted l b c)
 
 abbrev pub call : Bus → Call → Answer
 call b c = call_in (lines b) b c

@@ -1,11 +1,11 @@
 -- The bus record, what stands on it, and building it (document 01, "The bus record").
 -- Assumes nothing.
-use Rattle.std.specs.Prelude.{ℕ, false, cond, List, [], length}
+use Rattle.std.specs.Prelude.{ℕ, Bool, false, cond, List, [], length, Ok, Err, None}
 use Rattle.parties.specs.Places.{place, at}
 use Rattle.parties.specs.Lines.{lines_of}
 use Rattle.addresses.specs.Addresses.{names, placed, bad_build}
 use Rattle.effect.specs.Stands.{has_end}
-use Rattle.bus.specs.Types.{Place, Name, Party, Lines, Nothing, Bus, Answer, Refusal}
+use Rattle.bus.specs.Types.{Place, Name, Party, EachLine, Bus, Answer, Refusal, Verdict}
 use Rattle.bus.specs.Types.ruling
 use Rattle.bus.specs.Types.ev
 
@@ -13,29 +13,29 @@ use Rattle.bus.specs.Types.ev
 abbrev pub here : Bus → ℕ → Party
 here b i = at b.parties i
 
-abbrev pub lines : Bus → Lines
+abbrev pub lines : Bus → EachLine Bool
 lines b = lines_of b.count b.parties (has_end b.standing)
 
 -- "Build takes the addresses and the system party." Document 02, Q-3: "A party may be built with a secondary address
 -- 0..30, or none."
 abbrev pub built : List Name → Place → Bus
-built xs s = record { parties = placed 15 xs; count = length xs; system = s; standing = Nothing }
+built xs s = record { parties = placed 15 xs; count = length xs; system = s; standing = None }
 
 -- "the bus of no parties has system party 0"
 abbrev pub no_parties : Bus
 no_parties = built [] (place 0)
 
 -- Event none, byte, END and counts 0, and this bus.
-abbrev pub silent : Refusal → Bus → Answer
-silent r b = record { refusal = r; event = ev.None; byte = 0; end = false; dropped = 0; broken = 0; bus = b }
+abbrev pub silent : Verdict → Bus → Answer
+silent v b = record { verdict = v; event = ev.None; byte = 0; end = false; dropped = 0; broken = 0; bus = b }
 
 -- "A refusal returns event none, byte, END and counts 0, and the bus is unchanged".
 abbrev pub refuse : Refusal → Bus → Answer
-refuse r b = silent r b
+refuse r b = silent (Err r) b
 
 -- Accepted, with nothing to say.
 abbrev pub accept : Bus → Answer
-accept b = silent ruling.Accepted b
+accept b = silent (Ok tt) b
 
 -- "except that a refused build .. leaves the bus of no parties". An accepted one has event none; settling leaves a bus
 -- just built as it is.

@@ -4,17 +4,18 @@
 use Rattle.std.specs.Prelude.{ℕ, Bool, false, List, [], ◌∷◌, map}
 use Rattle.parties.specs.Places.{place}
 use Rattle.addresses.specs.Addresses.{names}
-use Rattle.bus.specs.Types.{Name, Event, Bus, Answer, Call, Refusal}
+use Rattle.bus.specs.Types.{Name, Event, Bus, Answer, Call, Refusal, Verdict}
 use Rattle.bus.specs.Types.ruling
 use Rattle.bus.specs.Types.ev
 use Rattle.bus.specs.Types.call_of
 use Rattle.bus.specs.Types.act_of
 use Rattle.bus.specs.Record.{build_extended}
 use Rattle.bus.specs.Machine.{call}
+use Rattle.std.specs.Prelude.{Ok, Err}
 
 -- An answer without its bus.
 pub record Report : Type 0 where
-  pub refusal : Refusal
+  pub verdict : Verdict
   pub event : Event
   pub byte : ℕ
   pub end : Bool
@@ -23,7 +24,7 @@ pub record Report : Type 0 where
 
 abbrev pub report_of : Answer → Report
 report_of a = record {
-  refusal = a.refusal;
+  verdict = a.verdict;
   event = a.event;
   byte = a.byte;
   end = a.end;
@@ -51,7 +52,7 @@ expected r = r.built ∷ map (λ c. c.1) r.calls
 -- The answers: bytes dropped and broken off; nothing to say; an event with its byte and END; moved; a refusal.
 abbrev pub loses : ℕ → ℕ → Report
 loses dropped broken = record {
-  refusal = ruling.Accepted;
+  verdict = Ok tt;
   event = ev.None;
   byte = 0;
   end = false;
@@ -63,13 +64,13 @@ abbrev pub ok : Report
 ok = loses 0 0
 
 abbrev pub says : Event → ℕ → Bool → Report
-says x v e = record { refusal = ruling.Accepted; event = x; byte = v; end = e; dropped = 0; broken = 0 }
+says x v e = record { verdict = Ok tt; event = x; byte = v; end = e; dropped = 0; broken = 0 }
 
 abbrev pub moved : Report
 moved = says ev.Moved 0 false
 
 abbrev pub refused : Refusal → Report
-refused r = record { refusal = r; event = ev.None; byte = 0; end = false; dropped = 0; broken = 0 }
+refused r = record { verdict = Err r; event = ev.None; byte = 0; end = false; dropped = 0; broken = 0 }
 
 -- The calls.
 abbrev pub step : ℕ → Call

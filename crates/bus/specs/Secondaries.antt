@@ -2,7 +2,6 @@
 -- Assumes nothing.
 use Rattle.std.specs.Prelude.{ℕ, ◌≡◌, true, false, List, [], ◌∷◌, map}
 use Rattle.message.specs.Meaning.{address, secondary}
-use Rattle.names.specs.declared.Secondary.TheVariants.{Given}
 use Rattle.names.specs.Names.{plain}
 use Rattle.parties.specs.Places.{place}
 use Rattle.bus.specs.Types.{Name, Event, Call}
@@ -12,13 +11,14 @@ use Rattle.bus.specs.Types.call_of
 use Rattle.bus.specs.Types.act_of
 use Rattle.bus.specs.Rows.{Report, Run, outcome, expected, ok, moved, says, refused, step, write, listen_only}
 use Rattle.bus.specs.Rows.{talk_only, clear, standby, run_of, not_built_of}
+use Rattle.std.specs.Prelude.{Some}
 
 abbrev at : ℕ → Name
 at a = plain (address a)
 
 -- Primary and secondary: 2/12 is at 2 12.
 abbrev extended : ℕ → ℕ → Name
-extended a s = record { address = address a; secondary = Given (secondary s) }
+extended a s = record { address = address a; secondary = Some (secondary s) }
 
 -- The rack: the controller at 4, and two instruments at one primary, 2/12 and 2/13.
 abbrev rack : List (Call × Report) → Run

@@ -1,6 +1,6 @@
 -- Attention and settling of the whole bus, and what follows on a call's own changes.
 -- Assumes nothing.
-use Rattle.std.specs.Prelude.{ℕ, ◌+◌, Bool, false, not, cond, List, set}
+use Rattle.std.specs.Prelude.{ℕ, ◌+◌, Bool, false, not, cond, List, set, Option, Some, None, Ok}
 use Rattle.party.specs.Parts.{one, held_bytes}
 use Rattle.party.specs.Driving.{is_active}
 use Rattle.party.specs.Sending.{is_source}
@@ -9,8 +9,7 @@ use Rattle.parties.specs.Places.{at, some, each, total}
 use Rattle.parties.specs.Lines.{poll_byte}
 use Rattle.effect.specs.Stands.{stands}
 use Rattle.effect.specs.Effects.{say, does}
-use Rattle.bus.specs.Types.{Party, Standing, Nothing, Byte, Bus, Answer, Said, Idle, Active, After, Effect}
-use Rattle.bus.specs.Types.ruling
+use Rattle.bus.specs.Types.{Party, Standing, Bus, Answer, Said, Idle, Active, After, Effect}
 use Rattle.bus.specs.Types.ev
 use Rattle.bus.specs.Types.after
 use Rattle.bus.specs.Record.{here}
@@ -18,7 +17,7 @@ use Rattle.bus.specs.Record.{here}
 -- The answer of an accepted call that leaves the bus b. `off` says that what stood was broken off.
 abbrev pub answered : Bool → Said → Bus → Answer
 answered off s b = record {
-  refusal = ruling.Accepted;
+  verdict = Ok tt;
   event = s.event;
   byte = s.byte;
   end = s.end;
@@ -28,29 +27,24 @@ answered off s b = record {
 }
 
 -- "After each accepted call every party settles."
-abbrev pub settle_bus_as : Bool → Bool → Bus → Said → List Party → Standing → Answer
+abbrev pub settle_bus_as : Bool → Bool → Bus → Said → List Party → Option Standing → Answer
 settle_bus_as atn off b s ps st = answered off s
-    (record {
-      parties = each b.count (settled atn) ps;
-      count = b.count;
-      system = b.system;
-      standing = cond off Nothing st;
-    })
+    (record b { parties = each b.count (settled atn) ps; standing = cond off None st })
 
 -- "A non-source goes to SIDS, its own standing byte broken off": its sender is no source any more.
-abbrev pub deserted : Bool → List Party → Standing → Bool
-deserted atn ps Nothing = false
-deserted atn ps (Byte s k v e) = not (is_source atn (at ps s.0))
+abbrev pub deserted : Bool → List Party → Option Standing → Bool
+deserted atn ps None = false
+deserted atn ps (Some b) = not (is_source atn (at ps b.sender.0))
 
 -- Settling alone, with ATN as it is: no call changes who is active unless attention follows.
-abbrev pub settle_bus : Bool → Bus → Said → List Party → Standing → Answer
+abbrev pub settle_bus : Bool → Bus → Said → List Party → Option Standing → Answer
 settle_bus atn b s ps st = settle_bus_as atn (deserted atn ps st) b s ps st
 
 -- Attention, then settling: "a standing byte is broken off and never put again; all sources to SIDS; ..".
-abbrev pub attend_as : Bool → Bus → Said → List Party → Standing → Answer
+abbrev pub attend_as : Bool → Bus → Said → List Party → Option Standing → Answer
 attend_as atn b s ps st = settle_bus_as atn (stands st) b s (each b.count (attended atn) ps) st
 
-abbrev pub attend : Bus → Said → List Party → Standing → Answer
+abbrev pub attend : Bus → Said → List Party → Option Standing → Answer
 attend b s ps st = attend_as (some b.count is_active ps) b s ps st
 
 -- A call that changes party i: without attention, and with it ("a call that changes which party is active (or none)").

@@ -7,8 +7,7 @@ pub use Rattle.party.specs.declared.Source.{Source}
 pub use Rattle.party.specs.declared.Source.TheVariants.{Sids, Sgns, Sdys, Strs}
 pub use Rattle.party.specs.declared.Acceptor.{Acceptor}
 pub use Rattle.party.specs.declared.Acceptor.TheVariants.{Aids, Anrs, Acrs, Acds, Awns}
-pub use Rattle.offer.specs.declared.Slot.{Slot}
-pub use Rattle.offer.specs.declared.Slot.TheVariants.{Empty, Full}
+pub use Rattle.offer.specs.declared.Byte.{Byte}
 pub use Rattle.offer.specs.declared.Kind.{Kind}
 pub use Rattle.offer.specs.declared.Kind.TheVariants.{Command, Data, Status}
 pub use Rattle.event.specs.declared.Event.{Event}
@@ -16,16 +15,12 @@ pub use Rattle.event.specs.declared.Event.TheVariants as ev
 pub use Rattle.names.specs.declared.Name.{Name}
 pub use Rattle.role.specs.declared.Role.{Role}
 pub use Rattle.party.specs.declared.Party.{Party}
-pub use Rattle.parties.specs.declared.Lines.{Lines}
-pub use Rattle.parties.specs.declared.Masks.{Masks}
-pub use Rattle.parties.specs.declared.Counts.{Counts}
-pub use Rattle.parties.specs.declared.Found.{Found}
-pub use Rattle.parties.specs.declared.Found.TheVariants.{Nowhere, At}
+pub use Rattle.parties.specs.declared.EachLine.{EachLine}
 pub use Rattle.effect.specs.declared.Standing.{Standing}
-pub use Rattle.effect.specs.declared.Standing.TheVariants.{Nothing, Byte}
 pub use Rattle.bus.specs.declared.Bus.{Bus}
 pub use Rattle.effect.specs.declared.Refusal.{Refusal}
 pub use Rattle.effect.specs.declared.Refusal.TheVariants as ruling
+pub use Rattle.effect.specs.Types.{Verdict}
 pub use Rattle.bus.specs.declared.Answer.{Answer}
 pub use Rattle.bus.specs.declared.Drivers.{Drivers}
 pub use Rattle.effect.specs.declared.Call.{Call}

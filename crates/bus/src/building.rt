@@ -4,21 +4,18 @@ ghost use Rattle.addresses.specs.Addresses.{names, names_of, placed};
 ghost use Rattle.bus.specs.Record.{build, build_extended};
 
 use crate::{Answer, Bus};
-use addresses::{bad_build, go_together, name_at};
-use effect::{Refusal, Standing};
+use addresses::Roster;
+use effect::Refusal;
 use party::{Party, Place};
 
 // A party for each address, with its secondary, then the idle party.
-fn placed(addresses: &[u8], secondaries: &[u8]) -> [Party; 15]
-    requires { length addresses.now ≤ 15 }
-    ensures { result ≡ placed 15 (names addresses.now secondaries.now) }
+fn placed(roster: Roster<'_>) -> [Party; 15]
+    requires { length roster.addresses.now ≤ 15 }
+    ensures { result ≡ placed 15 (names roster.entry.addresses.now roster.entry.secondaries.now) }
 {
     let mut out = [Party::IDLE; 15];
-    let mut k: usize = 0;
-    while k < addresses.len() {
-        let p = Party::build(name_at(addresses, secondaries, k));
-        out[k] = p;
-        k = k + 1;
+    for k in 0..roster.addresses.len() {
+        out[k] = Party::build(roster.name_at(k));
     }
     out
 }
@@ -36,17 +33,21 @@ impl Bus {
     pub fn build_extended(addresses: &[u8], secondaries: &[u8], system: Place) -> Answer
         ensures { result ≡ build_extended (names_of addresses.now secondaries.now) system }
     {
-        if !go_together(addresses, secondaries) {
+        let roster = Roster {
+            addresses,
+            secondaries,
+        };
+        if !roster.go_together() {
             return Bus::EMPTY.refuse(Refusal::BadBuild);
         }
-        if bad_build(addresses, secondaries, system) {
+        if roster.bad_build(system) {
             return Bus::EMPTY.refuse(Refusal::BadBuild);
         }
         let bus = Bus {
-            parties: placed(addresses, secondaries),
+            parties: placed(roster),
             count: (addresses.len() % 256) as u8,
             system,
-            standing: Standing::Nothing,
+            standing: None,
         };
         bus.accept()
     }

@@ -1,11 +1,12 @@
 // The calls on a bus: each goes through the parties once, meets its refusal or has its effect, and hands the bus back
-// in its answer.
+// in its answer. Each operation has a method under its own name, as the pages and the hosts name it.
 ghost use Rattle.std.specs.Prelude.{◌≡◌};
 ghost use Rattle.bus.specs.Machine.{call, accessed};
 ghost use Rattle.bus.specs.Drivers.{drivers};
 
 use crate::{Answer, Bus, Drivers};
 use accepted::effect_of;
+use effect::stands::{end_mask, has_end};
 use effect::{Act, Call, View};
 use parties::every::slot;
 use parties::sweeping::sweep_of;
@@ -18,30 +19,21 @@ impl Bus {
     pub fn call(self, c: Call) -> Answer
         ensures { result ≡ call self c }
     {
-        let i = c.place();
-        let at = slot(i);
-        let ps = self.parties;
-        let st = self.standing;
-        let system = self.system;
-        let s = sweep_of(ps, self.count).told(at, st.has_end());
-        let lines = s.lines;
-        let talker = s.talker;
-        let party = ps[at];
-        let inside = is_inside(i, self.count);
+        let place = c.place();
+        let at = slot(place);
+        let scan = sweep_of(self.parties, self.count).told(at, has_end(self.standing));
         let v = View {
-            lines,
-            standing: st,
-            place: i,
-            party,
-            talker,
-            inside,
-            chief: i.0 == system.0,
+            place,
+            inside: is_inside(place, self.count),
+            chief: place == self.system,
+            talker: scan.talker,
+            lines: scan.lines,
+            standing: self.standing,
+            party: self.parties[at],
         };
-        let r = judge(c, v);
-        if r.is_accepted() {
-            self.follow(lines.atn, i, effect_of(c, v))
-        } else {
-            self.refuse(r)
+        match judge(c, v) {
+            Ok(()) => self.follow(scan.lines.atn, place, effect_of(c, v)),
+            Err(r) => self.refuse(r),
         }
     }
 
@@ -160,9 +152,8 @@ impl Bus {
     pub fn drivers(self) -> Drivers
         ensures { result ≡ drivers self }
     {
-        let ps = self.parties;
-        let st = self.standing;
-        let masks = sweep_of(ps, self.count).masks_with(st.end_mask(self.count));
+        let sender = end_mask(self.count, self.standing);
+        let masks = sweep_of(self.parties, self.count).masks_with(sender);
         Drivers {
             masks,
             counts: masks.counts(),

@@ -1,7 +1,7 @@
 // The bus: its parties, the standing byte, the calls on it and their answers.
 #![tactic(auto)]
 
-use effect::{Refusal, Standing};
+use effect::{Standing, Verdict};
 use event::Event;
 use parties::{Counts, Masks};
 use party::{Party, Place};
@@ -17,13 +17,13 @@ pub struct Bus {
     pub count: u8,
     // The system party, who alone may clear the interface.
     pub system: Place,
-    pub standing: Standing,
+    pub standing: Option<Standing>,
 }
 
 // What a call answers, and the bus after it.
 #[derive(Clone, Copy)]
 pub struct Answer {
-    pub refusal: Refusal,
+    pub verdict: Verdict,
     pub event: Event,
     pub byte: u8,
     pub end: bool,
@@ -47,6 +47,6 @@ impl Bus {
         parties: [Party::IDLE; 15],
         count: 0,
         system: Place(0),
-        standing: Standing::Nothing,
+        standing: None,
     };
 }

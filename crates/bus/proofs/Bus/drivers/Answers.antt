@@ -7,6 +7,6 @@ pub returns : goal.returns
 returns c =
     let b = c.args.self in
     let m : c.masks_with-masks.result ≡ masks b = c.masks_with-masks.ensures
-    ∙ rw (c.end_mask.ensures, c.sweep_of.ensures) refl
+    ∙ rw (c.end_mask-sender.ensures, c.sweep_of.ensures) refl
     in
     rw (c.call.ensures, c.counts.ensures, m, masks_counted b) refl
