@@ -1,21 +1,21 @@
 -- What was written is read back as it was.
 -- Assumes nothing.
 use mathlib.Core.Path.{◌≡◌, refl, ap, ◌∙◌}
-use mathlib.Core.Bool.{Bool, true, false}
+use mathlib.Core.Bool.{Bool, true, false, cond}
 use mathlib.Core.List.{List, [], ◌∷◌, map}
 use lib.ListN.{length, length-map}
 use lib.Seq.{take_at, get_or_at}
+use Rattle.std.specs.Prelude.{Option, Some, None, is_some}
+use Rattle.message.specs.declared.SecondaryAddress.{SecondaryAddress}
 use Rattle.party.specs.Parts.{one}
-use Rattle.offer.specs.Offer.{is_full}
+use Rattle.offer.specs.Offer.{byte}
 use Rattle.effect.specs.Stands.{has_end}
-use Rattle.image.specs.Types.{Secondary, Absent, Given, Mark, Unmarked, TalkPrimary, ListenPrimary, Party}
-use Rattle.image.specs.Types.{Configuring, Response, Unset, Set}
-use Rattle.image.specs.Types.{Control, Idle, Standby, Active, Source, Sids, Sgns, Sdys, Strs, Acceptor, Aids}
-use Rattle.image.specs.Types.{Anrs, Acrs, Acds, Awns}
-use Rattle.image.specs.Types.{Service, Nprs, Srqs, Aprs, Slot, Empty, Full, Command, Data, Status, Standing}
-use Rattle.image.specs.Types.{Nothing, Byte}
-use Rattle.image.specs.Image.{mark_number, has_secondary, secondary_number, control_number, source_number}
-use Rattle.image.specs.Image.{acceptor_number, service_number, slot_value, slot_end, standing_tag, standing_sender}
+use Rattle.image.specs.Types.{Mark, Unmarked, TalkPrimary, ListenPrimary, Configuring, Response, Party}
+use Rattle.image.specs.Types.{Control, Idle, Standby, Active, Source, Sids, Sgns, Sdys, Strs}
+use Rattle.image.specs.Types.{Acceptor, Aids, Anrs, Acrs, Acds, Awns, Service, Nprs, Srqs, Aprs}
+use Rattle.image.specs.Types.{Byte, Kind, Command, Data, Status, Standing}
+use Rattle.image.specs.Image.{mark_number, secondary_number, control_number, source_number, acceptor_number}
+use Rattle.image.specs.Image.{service_number, kind_number, slot_value, slot_end, standing_tag, standing_sender}
 use Rattle.image.specs.Image.{standing_value, response_tag, response_line, row_of, last_row, rows_of}
 use Rattle.image.specs.Image.{flag, mark_of, secondary_of, control_of, source_of, acceptor_of, service_of, slot_of}
 use Rattle.image.specs.Image.{standing_of, response_of, party_of, bus_of, ReadBack}
@@ -30,9 +30,9 @@ mark_kept TalkPrimary = refl
 mark_kept ListenPrimary = refl
 mark_kept Configuring = refl
 
-secondary_kept : (x : Secondary) → secondary_of (one (has_secondary x)) (secondary_number x) ≡ x
-secondary_kept Absent = refl
-secondary_kept (Given s) = refl
+secondary_kept : (x : Option SecondaryAddress) → secondary_of (one (is_some x)) (secondary_number x) ≡ x
+secondary_kept None = refl
+secondary_kept (Some s) = refl
 
 control_kept : (x : Control) → control_of (control_number x) ≡ x
 control_kept Idle = refl
@@ -57,21 +57,28 @@ service_kept Nprs = refl
 service_kept Srqs = refl
 service_kept Aprs = refl
 
-slot_kept : (x : Slot) → slot_of (one (is_full x)) (slot_value x) (one (slot_end x)) ≡ x
-slot_kept Empty = refl
-slot_kept (Full v e) = ap (Full v) (flag_kept e)
+slot_kept : (x : Option Byte) → slot_of (one (is_some x)) (slot_value x) (one (slot_end x)) ≡ x
+slot_kept None = refl
+slot_kept (Some b) = ap (λ e. Some (byte b.value e)) (flag_kept b.end)
 
-response_kept : (x : Response) → response_of (response_tag x) (response_line x) ≡ x
-response_kept Unset = refl
-response_kept (Set true line) = refl
-response_kept (Set false line) = refl
+response_kept : (x : Option Response) → response_of (response_tag x) (response_line x) ≡ x
+response_kept None = refl
+response_kept (Some r) = go r.sense
+  where
+    go : (s : Bool) → response_of (cond s 2 1) r.line ≡ Some (record r { sense = s })
+    go true = refl
+    go false = refl
 
-standing_kept : (x : Standing)
+standing_kept : (x : Option Standing)
     → standing_of (standing_tag x) (standing_sender x) (standing_value x) (one (has_end x)) ≡ x
-standing_kept Nothing = refl
-standing_kept (Byte s Command v e) = ap (Byte s Command v) (flag_kept e)
-standing_kept (Byte s Data v e) = ap (Byte s Data v) (flag_kept e)
-standing_kept (Byte s Status v e) = ap (Byte s Status v) (flag_kept e)
+standing_kept None = refl
+standing_kept (Some st) = go st.kind ∙ ap (λ e. Some (record st { end = e })) (flag_kept st.end)
+  where
+    go : (k : Kind) → standing_of (kind_number k) st.sender.0 st.value (one st.end)
+        ≡ Some (record st { kind = k; end = flag (one st.end) })
+    go Command = refl
+    go Data = refl
+    go Status = refl
 
 party_kept : (p : Party) → party_of (row_of p) ≡ p
 party_kept p = rw (

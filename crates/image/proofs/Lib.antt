@@ -1,4 +1,3 @@
--- The laws of rows and of the loops, and what is read back.
-pub mod Rows
+-- The law of the loops, and what is read back.
 pub mod Loops
 pub mod Kept

@@ -1,29 +1,19 @@
--- The law of the two loops: after k turns the first k elements are those that f makes, and the rest are as they were.
+-- The law of the two loops: a turn writes one element more.
 -- Assumes nothing.
-use Prim.Native.Nat.{ℕ, zero, suc, ◌+◌, ◌≤◌, ◌<◌}
-use mathlib.Core.Path.{◌≡◌, refl, ap, ◌∙◌}
-use mathlib.Core.List.{List, [], ◌∷◌, ◌++◌, map}
+use Prim.Native.Nat.{ℕ, ◌+◌, ◌<◌}
+use mathlib.Core.Path.{◌≡◌, sym, ◌∙◌, subst}
+use mathlib.Core.List.{List, map}
 use native.Mathlib.Omega.{arith}
-use native.Mathlib.Numerals.{add-one}
-use native.Mathlib.Nat.{not-suc-le-zero, le_of_suc-le-suc}
-use lib.ListN.{length, get_or, take, drop, set}
-
-abbrev pub filled : {A B : Type 0} → (A → B) → List A → List B → ℕ → List B
-filled f xs ys k = map f (take k xs) ++ drop k ys
-
--- one element more
-filled_suc : {A B : Type 0} (f : A → B) (d : A) (xs : List A) (ys : List B) (k : ℕ) → k < length xs → k < length ys
-    → set (filled f xs ys k) k (f (get_or xs k d)) ≡ filled f xs ys (suc k)
-filled_suc f d [] ys k h l = absurd (not-suc-le-zero h)
-filled_suc f d (x ∷ xs) [] k h l = absurd (not-suc-le-zero l)
-filled_suc f d (x ∷ xs) (y ∷ ys) zero h l = refl
-filled_suc f d (x ∷ xs) (y ∷ ys) (suc k) h l = ap (◌∷◌ (f x))
-    (filled_suc f d xs ys k (le_of_suc-le-suc h) (le_of_suc-le-suc l))
+use lib.ListN.{length, get_or, set}
+use lib.Seq.{paste}
+use Rattle.std.proofs.lemmas.List.{get_or-map, length-map}
+use Rattle.std.proofs.lemmas.List.Edits.{paste_more}
 
 pub turn : {A B : Type 0} (f : A → B) (d : A) (xs : List A) (ys : List B) (k : ℕ) {out : List B} {q : B} → k < length xs
-    → k < length ys → out ≡ filled f xs ys k → q ≡ f (get_or xs k d) → set out k q ≡ filled f xs ys (k + 1)
-turn f d xs ys k h l i e = rw (add-one k, i, e) (filled_suc f d xs ys k h l)
-
-pub done : {A B : Type 0} (f : A → B) (xs : List A) (ys : List B) (n k : ℕ) {out : List B} → k ≤ n → n ≤ k
-    → out ≡ filled f xs ys k → out ≡ filled f xs ys n
-done f xs ys n k l m e = let z : k ≡ n = omega arith in e ∙ ap (filled f xs ys) z
+    → k < length ys → out ≡ paste ys 0 (map f xs) k → q ≡ f (get_or xs k d)
+    → set out k q ≡ paste ys 0 (map f xs) (k + 1)
+turn f d xs ys k {q = q} h l i e =
+    let z : 0 + k ≡ k = omega arith in
+    rw (i, e ∙ sym (get_or-map f xs k d q h)) (subst
+    (λ (n : ℕ). set (paste ys 0 (map f xs) k) n (get_or (map f xs) k q) ≡ paste ys 0 (map f xs) (k + 1)) z
+    (paste_more ys 0 (map f xs) k q (omega arith) (rw length-map h)))

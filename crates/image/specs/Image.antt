@@ -3,17 +3,17 @@
 -- content is wrong.
 -- Assumes nothing.
 use Rattle.std.specs.Prelude.{ℕ, ◌≡◌, Bool, true, false, cond, List, [], ◌∷◌, ◌++◌, map, length, get_or, take, eqb}
+use Rattle.std.specs.Prelude.{Option, Some, None, is_some}
+use Rattle.message.specs.declared.SecondaryAddress.{SecondaryAddress}
 use Rattle.message.specs.Meaning.{address, secondary}
+use Rattle.offer.specs.Offer.{byte}
 use Rattle.party.specs.Parts.{one}
-use Rattle.offer.specs.Offer.{is_full}
 use Rattle.parties.specs.Places.{place}
-use Rattle.effect.specs.Stands.{has_end}
-use Rattle.image.specs.Types.{Secondary, Absent, Given, Mark, Unmarked, TalkPrimary, ListenPrimary, Role, Party}
-use Rattle.image.specs.Types.{Configuring, Response, Unset, Set}
-use Rattle.image.specs.Types.{Control, Idle, Standby, Active, Source, Sids, Sgns, Sdys, Strs, Acceptor, Aids}
-use Rattle.image.specs.Types.{Anrs, Acrs, Acds, Awns}
-use Rattle.image.specs.Types.{Service, Nprs, Srqs, Aprs, Slot, Empty, Full, Kind, Command, Data, Status, Standing}
-use Rattle.image.specs.Types.{Nothing, Byte, Bus}
+use Rattle.effect.specs.Stands.{sent, has_end}
+use Rattle.image.specs.Types.{Mark, Unmarked, TalkPrimary, ListenPrimary, Configuring, Response, Role, Party}
+use Rattle.image.specs.Types.{Control, Idle, Standby, Active, Source, Sids, Sgns, Sdys, Strs}
+use Rattle.image.specs.Types.{Acceptor, Aids, Anrs, Acrs, Acds, Awns, Service, Nprs, Srqs, Aprs}
+use Rattle.image.specs.Types.{Byte, Kind, Command, Data, Status, Standing, Bus}
 
 -- The states by number, from 0 in the order of their declaration.
 abbrev pub mark_number : Mark → ℕ
@@ -52,44 +52,40 @@ kind_number Data = 2
 kind_number Status = 3
 
 -- A secondary is two bytes: whether there is one, and its number; zeros where there is none.
-abbrev pub has_secondary : Secondary → Bool
-has_secondary Absent = false
-has_secondary (Given s) = true
-
-abbrev pub secondary_number : Secondary → ℕ
-secondary_number Absent = 0
-secondary_number (Given s) = s.0
+abbrev pub secondary_number : Option SecondaryAddress → ℕ
+secondary_number None = 0
+secondary_number (Some s) = s.0
 
 -- A slot is three bytes: whether it is full, its byte, and its END; an empty one is zeros.
-abbrev pub slot_value : Slot → ℕ
-slot_value Empty = 0
-slot_value (Full v e) = v
+abbrev pub slot_value : Option Byte → ℕ
+slot_value None = 0
+slot_value (Some b) = b.value
 
-abbrev pub slot_end : Slot → Bool
-slot_end Empty = false
-slot_end (Full v e) = e
+abbrev pub slot_end : Option Byte → Bool
+slot_end None = false
+slot_end (Some b) = b.end
 
 -- What stands is four bytes: its kind, its sender, its byte and its END; zeros where nothing does.
-abbrev pub standing_tag : Standing → ℕ
-standing_tag Nothing = 0
-standing_tag (Byte s k v e) = kind_number k
+abbrev pub standing_tag : Option Standing → ℕ
+standing_tag None = 0
+standing_tag (Some b) = kind_number b.kind
 
-abbrev pub standing_sender : Standing → ℕ
-standing_sender Nothing = 0
-standing_sender (Byte s k v e) = s.0
+abbrev pub standing_sender : Option Standing → ℕ
+standing_sender None = 0
+standing_sender (Some b) = b.sender.0
 
-abbrev pub standing_value : Standing → ℕ
-standing_value Nothing = 0
-standing_value (Byte s k v e) = v
+abbrev pub standing_value : Option Standing → ℕ
+standing_value None = 0
+standing_value (Some b) = b.value
 
 -- A response is two bytes: 1 or 2, by its sense, and its line; zeros where there is none.
-abbrev pub response_tag : Response → ℕ
-response_tag Unset = 0
-response_tag (Set sense line) = cond sense 2 1
+abbrev pub response_tag : Option Response → ℕ
+response_tag None = 0
+response_tag (Some r) = cond r.sense 2 1
 
-abbrev pub response_line : Response → ℕ
-response_line Unset = 0
-response_line (Set sense line) = line
+abbrev pub response_line : Option Response → ℕ
+response_line None = 0
+response_line (Some r) = r.line
 
 -- The row of a party.
 abbrev pub row_of : Party → List ℕ
@@ -101,16 +97,16 @@ row_of p =
     ∷ control_number p.control
     ∷ source_number p.source
     ∷ acceptor_number p.acceptor
-    ∷ one (is_full p.held)
+    ∷ one (is_some p.held)
     ∷ slot_value p.held
     ∷ one (slot_end p.held)
-    ∷ one (is_full p.input)
+    ∷ one (is_some p.input)
     ∷ slot_value p.input
     ∷ one (slot_end p.input)
     ∷ p.request.live
     ∷ p.request.saved
     ∷ service_number p.request.service
-    ∷ one (has_secondary p.role.name.secondary)
+    ∷ one (is_some p.role.name.secondary)
     ∷ secondary_number p.role.name.secondary
     ∷ mark_number p.role.mark
     ∷ one p.request.rsv2
@@ -155,24 +151,25 @@ abbrev pub service_of : ℕ → Service
 service_of n = cond (eqb n 1) Srqs (cond (eqb n 2) Aprs Nprs)
 
 -- There is a secondary if its flag is on.
-abbrev pub secondary_of : ℕ → ℕ → Secondary
-secondary_of given s = cond (flag given) (Given (secondary s)) Absent
+abbrev pub secondary_of : ℕ → ℕ → Option SecondaryAddress
+secondary_of given s = cond (flag given) (Some (secondary s)) None
 
 -- A slot is full if its flag is on.
-abbrev pub slot_of : ℕ → ℕ → ℕ → Slot
-slot_of full v e = cond (flag full) (Full v (flag e)) Empty
+abbrev pub slot_of : ℕ → ℕ → ℕ → Option Byte
+slot_of full v e = cond (flag full) (Some (byte v (flag e))) None
 
 -- What stands is of the kind whose number is there, and nothing stands where no kind has it.
-abbrev pub byte_of : Kind → ℕ → ℕ → ℕ → Standing
-byte_of k s v e = Byte (place s) k v (flag e)
+abbrev pub byte_of : Kind → ℕ → ℕ → ℕ → Option Standing
+byte_of k s v e = Some (sent (place s) k v (flag e))
 
-abbrev pub standing_of : ℕ → ℕ → ℕ → ℕ → Standing
+abbrev pub standing_of : ℕ → ℕ → ℕ → ℕ → Option Standing
 standing_of tag s v e = cond (eqb tag 1) (byte_of Command s v e)
-    (cond (eqb tag 2) (byte_of Data s v e) (cond (eqb tag 3) (byte_of Status s v e) Nothing))
+    (cond (eqb tag 2) (byte_of Data s v e) (cond (eqb tag 3) (byte_of Status s v e) None))
 
 -- There is a response if its number has a sense.
-abbrev pub response_of : ℕ → ℕ → Response
-response_of tag line = cond (eqb tag 1) (Set false line) (cond (eqb tag 2) (Set true line) Unset)
+abbrev pub response_of : ℕ → ℕ → Option Response
+response_of tag line = cond (eqb tag 1) (Some (record { sense = false; line = line }))
+    (cond (eqb tag 2) (Some (record { sense = true; line = line })) None)
 
 abbrev pub byte_at : List ℕ → ℕ → ℕ
 byte_at row k = get_or row k 0

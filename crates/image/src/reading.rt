@@ -1,4 +1,4 @@
-// From rows to the bus that they say.
+// From rows to the bus that they say. Every number is read as some case, the first where it is none: no TryFrom.
 ghost use Rattle.std.specs.Prelude.{◌≡◌, map, take};
 ghost use Rattle.image.specs.Image.{flag, mark_of, secondary_of, role_of, control_of, source_of, acceptor_of};
 ghost use Rattle.image.specs.Image.{service_of, slot_of, byte_of, standing_of, response_of, party_of, bus_with};
@@ -7,8 +7,8 @@ ghost use Rattle.image.specs.Image.{bus_of};
 use bus::Bus;
 use effect::Standing;
 use message::{Address, SecondaryAddress};
-use names::{Name, Secondary};
-use offer::{Kind, Slot};
+use names::Name;
+use offer::{Byte, Kind};
 use party::{Acceptor, Control, Latches, Party, Place, Source};
 use role::{Mark, Response, Role};
 use service::{Request, Service};
@@ -30,13 +30,10 @@ fn mark_of(n: u8) -> Mark
     }
 }
 
-fn secondary_of(given: u8, number: u8) -> Secondary
+fn secondary_of(given: u8, number: u8) -> Option<SecondaryAddress>
     ensures { result ≡ secondary_of given number }
 {
-    match given {
-        1 => Secondary::Given(SecondaryAddress(number)),
-        _ => Secondary::Absent,
-    }
+    flag(given).then_some(SecondaryAddress(number))
 }
 
 fn control_of(n: u8) -> Control
@@ -82,56 +79,55 @@ fn service_of(n: u8) -> Service
     }
 }
 
-fn slot_of(full: u8, value: u8, end: u8) -> Slot
+fn slot_of(full: u8, value: u8, end: u8) -> Option<Byte>
     ensures { result ≡ slot_of full value end }
 {
-    match full {
-        1 => Slot::Full(value, flag(end)),
-        _ => Slot::Empty,
-    }
+    flag(full).then_some(Byte {
+        value,
+        end: flag(end),
+    })
 }
 
-fn byte_of(kind: Kind, sender: u8, value: u8, end: u8) -> Standing
+fn byte_of(kind: Kind, sender: u8, value: u8, end: u8) -> Option<Standing>
     ensures { result ≡ byte_of kind sender value end }
 {
-    Standing::Byte {
+    Some(Standing {
         sender: Place(sender),
         kind,
         value,
         end: flag(end),
-    }
+    })
 }
 
-fn standing_of(tag: u8, sender: u8, value: u8, end: u8) -> Standing
+fn standing_of(tag: u8, sender: u8, value: u8, end: u8) -> Option<Standing>
     ensures { result ≡ standing_of tag sender value end }
 {
     match tag {
         1 => byte_of(Kind::Command, sender, value, end),
         2 => byte_of(Kind::Data, sender, value, end),
         3 => byte_of(Kind::Status, sender, value, end),
-        _ => Standing::Nothing,
+        _ => None,
     }
 }
 
-fn response_of(tag: u8, line: u8) -> Response
+fn response_of(tag: u8, line: u8) -> Option<Response>
     ensures { result ≡ response_of tag line }
 {
     match tag {
-        1 => Response::Set { sense: false, line },
-        2 => Response::Set { sense: true, line },
-        _ => Response::Unset,
+        1 => Some(Response { sense: false, line }),
+        2 => Some(Response { sense: true, line }),
+        _ => None,
     }
 }
 
 fn role_of(row: [u8; 24]) -> Role
     ensures { result ≡ role_of row }
 {
-    let name = Name {
-        address: Address(row[0]),
-        secondary: secondary_of(row[16], row[17]),
-    };
     Role {
-        name,
+        name: Name {
+            address: Address(row[0]),
+            secondary: secondary_of(row[16], row[17]),
+        },
         talk: flag(row[1]),
         listen: flag(row[2]),
         poll: flag(row[3]),
@@ -143,21 +139,19 @@ fn role_of(row: [u8; 24]) -> Role
 fn party_of(row: [u8; 24]) -> Party
     ensures { result ≡ party_of row }
 {
-    let role = role_of(row);
-    let request = Request {
-        live: row[13],
-        saved: row[14],
-        rsv2: flag(row[19]),
-        service: service_of(row[15]),
-    };
     Party {
-        role,
+        role: role_of(row),
         control: control_of(row[4]),
         source: source_of(row[5]),
         acceptor: acceptor_of(row[6]),
         held: slot_of(row[7], row[8], row[9]),
         input: slot_of(row[10], row[11], row[12]),
-        request,
+        request: Request {
+            live: row[13],
+            saved: row[14],
+            rsv2: flag(row[19]),
+            service: service_of(row[15]),
+        },
         latches: Latches {
             feoi: flag(row[20]),
             ist: flag(row[23]),
@@ -176,15 +170,13 @@ fn bus_with(parties: [Party; 15], row: [u8; 24]) -> Bus
     }
 }
 
+#[tactic(auto, using(crate::proofs::Loops::turn))]
 fn parties_of(rows: [[u8; 24]; 16]) -> [Party; 15]
     ensures { result ≡ map party_of (take 15 rows) }
 {
     let mut out = [Party::IDLE; 15];
-    let mut k: usize = 0;
-    while k < 15 {
-        let p = party_of(rows[k]);
-        out[k] = p;
-        k = k + 1;
+    for k in 0..15 {
+        out[k] = party_of(rows[k]);
     }
     out
 }

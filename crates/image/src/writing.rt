@@ -1,15 +1,14 @@
 // From a bus to its rows.
 ghost use Rattle.std.specs.Prelude.{◌≡◌};
-ghost use Rattle.image.specs.Image.{mark_number, has_secondary, secondary_number, control_number, source_number};
-ghost use Rattle.image.specs.Image.{acceptor_number, service_number, kind_number, slot_value, slot_end};
-ghost use Rattle.image.specs.Image.{standing_tag, standing_sender, standing_value, response_tag, response_line};
-ghost use Rattle.image.specs.Image.{row_of, last_row, rows_of};
+ghost use Rattle.image.specs.Image.{mark_number, control_number, source_number, acceptor_number, service_number};
+ghost use Rattle.image.specs.Image.{secondary_number, slot_value, slot_end, standing_tag, standing_sender};
+ghost use Rattle.image.specs.Image.{standing_value, response_tag, response_line, row_of, last_row, rows_of};
 
 use bus::Bus;
 use effect::Standing;
-use names::{Name, Secondary};
-use offer::{Kind, Slot};
-use party::clearing::one;
+use effect::stands::has_end;
+use message::SecondaryAddress;
+use offer::Byte;
 use party::{Acceptor, Control, Party, Source};
 use role::{Mark, Response};
 use service::Service;
@@ -17,252 +16,133 @@ use service::Service;
 fn mark_number(m: Mark) -> u8
     ensures { result ≡ mark_number m }
 {
-    match m {
-        Mark::Unmarked => 0,
-        Mark::TalkPrimary => 1,
-        Mark::ListenPrimary => 2,
-        Mark::Configuring => 3,
-    }
-}
-
-fn has_secondary(n: Name) -> bool
-    ensures { result ≡ has_secondary n.secondary }
-{
-    let s = n.secondary;
-    match s {
-        Secondary::Absent => false,
-        Secondary::Given(_) => true,
-    }
-}
-
-fn secondary_number(n: Name) -> u8
-    ensures { result ≡ secondary_number n.secondary }
-{
-    let s = n.secondary;
-    match s {
-        Secondary::Absent => 0,
-        Secondary::Given(own) => own.0,
-    }
+    m as u8
 }
 
 fn control_number(c: Control) -> u8
     ensures { result ≡ control_number c }
 {
-    match c {
-        Control::Idle => 0,
-        Control::Standby => 1,
-        Control::Active => 2,
-    }
+    c as u8
 }
 
 fn source_number(s: Source) -> u8
     ensures { result ≡ source_number s }
 {
-    match s {
-        Source::Sids => 0,
-        Source::Sgns => 1,
-        Source::Sdys => 2,
-        Source::Strs => 3,
-    }
+    s as u8
 }
 
 fn acceptor_number(a: Acceptor) -> u8
     ensures { result ≡ acceptor_number a }
 {
-    match a {
-        Acceptor::Aids => 0,
-        Acceptor::Anrs => 1,
-        Acceptor::Acrs => 2,
-        Acceptor::Acds => 3,
-        Acceptor::Awns => 4,
-    }
+    a as u8
 }
 
 fn service_number(s: Service) -> u8
     ensures { result ≡ service_number s }
 {
-    match s {
-        Service::Nprs => 0,
-        Service::Srqs => 1,
-        Service::Aprs => 2,
-    }
+    s as u8
 }
 
-fn kind_number(k: Kind) -> u8
-    ensures { result ≡ kind_number k }
+fn secondary_number(s: Option<SecondaryAddress>) -> u8
+    ensures { result ≡ secondary_number s }
 {
-    match k {
-        Kind::Command => 1,
-        Kind::Data => 2,
-        Kind::Status => 3,
-    }
+    s.map_or(0, |own| own.0)
 }
 
-fn slot_value(s: Slot) -> u8
+fn slot_value(s: Option<Byte>) -> u8
     ensures { result ≡ slot_value s }
 {
-    match s {
-        Slot::Empty => 0,
-        Slot::Full(v, _) => v,
-    }
+    s.map_or(0, |b| b.value)
 }
 
-fn slot_end(s: Slot) -> bool
+fn slot_end(s: Option<Byte>) -> bool
     ensures { result ≡ slot_end s }
 {
-    match s {
-        Slot::Empty => false,
-        Slot::Full(_, end) => end,
-    }
+    s.is_some_and(|b| b.end)
 }
 
-fn standing_tag(s: Standing) -> u8
-    ensures { result ≡ standing_tag s }
+fn standing_tag(st: Option<Standing>) -> u8
+    ensures { result ≡ standing_tag st }
 {
-    match s {
-        Standing::Nothing => 0,
-        Standing::Byte {
-            sender: _,
-            kind,
-            value: _,
-            end: _,
-        } => kind_number(kind),
-    }
+    st.map_or(0, |b| b.kind as u8 + 1)
 }
 
-fn standing_sender(s: Standing) -> u8
-    ensures { result ≡ standing_sender s }
+fn standing_sender(st: Option<Standing>) -> u8
+    ensures { result ≡ standing_sender st }
 {
-    match s {
-        Standing::Nothing => 0,
-        Standing::Byte {
-            sender,
-            kind: _,
-            value: _,
-            end: _,
-        } => sender.0,
-    }
+    st.map_or(0, |b| b.sender.0)
 }
 
-fn standing_value(s: Standing) -> u8
-    ensures { result ≡ standing_value s }
+fn standing_value(st: Option<Standing>) -> u8
+    ensures { result ≡ standing_value st }
 {
-    match s {
-        Standing::Nothing => 0,
-        Standing::Byte {
-            sender: _,
-            kind: _,
-            value,
-            end: _,
-        } => value,
-    }
+    st.map_or(0, |b| b.value)
 }
 
-fn response_tag(r: Response) -> u8
+fn response_tag(r: Option<Response>) -> u8
     ensures { result ≡ response_tag r }
 {
-    match r {
-        Response::Unset => 0,
-        Response::Set { sense, line: _ } => if sense { 2 } else { 1 },
-    }
+    r.map_or(0, |r| r.sense as u8 + 1)
 }
 
-fn response_line(r: Response) -> u8
+fn response_line(r: Option<Response>) -> u8
     ensures { result ≡ response_line r }
 {
-    match r {
-        Response::Unset => 0,
-        Response::Set { sense: _, line } => line,
-    }
+    r.map_or(0, |r| r.line)
 }
 
 fn row_of(p: Party) -> [u8; 24]
     ensures { result ≡ row_of p }
 {
-    let role = p.role;
-    let name = role.name;
-    let mark = role.mark;
-    let response = role.response;
-    let control = p.control;
-    let source = p.source;
-    let acceptor = p.acceptor;
-    let held = p.held;
-    let input = p.input;
-    let request = p.request;
-    let service = request.service;
     [
-        name.address.0,
-        one(role.talk),
-        one(role.listen),
-        one(role.poll),
-        control_number(control),
-        source_number(source),
-        acceptor_number(acceptor),
-        one(held.is_full()),
-        slot_value(held),
-        one(slot_end(held)),
-        one(input.is_full()),
-        slot_value(input),
-        one(slot_end(input)),
-        request.live,
-        request.saved,
-        service_number(service),
-        one(has_secondary(name)),
-        secondary_number(name),
-        mark_number(mark),
-        one(request.rsv2),
-        one(p.latches.feoi),
-        response_tag(response),
-        response_line(response),
-        one(p.latches.ist),
+        p.role.name.address.0,
+        p.role.talk as u8,
+        p.role.listen as u8,
+        p.role.poll as u8,
+        control_number(p.control),
+        source_number(p.source),
+        acceptor_number(p.acceptor),
+        p.held.is_some() as u8,
+        slot_value(p.held),
+        slot_end(p.held) as u8,
+        p.input.is_some() as u8,
+        slot_value(p.input),
+        slot_end(p.input) as u8,
+        p.request.live,
+        p.request.saved,
+        service_number(p.request.service),
+        p.role.name.secondary.is_some() as u8,
+        secondary_number(p.role.name.secondary),
+        mark_number(p.role.mark),
+        p.request.rsv2 as u8,
+        p.latches.feoi as u8,
+        response_tag(p.role.response),
+        response_line(p.role.response),
+        p.latches.ist as u8,
     ]
 }
 
 fn last_row(b: Bus) -> [u8; 24]
     ensures { result ≡ last_row b }
 {
-    let system = b.system;
-    let standing = b.standing;
-    [
-        b.count,
-        system.0,
-        standing_tag(standing),
-        standing_sender(standing),
-        standing_value(standing),
-        one(standing.has_end()),
-        0,
-        0,
-        0,
-        0,
-        0,
-        0,
-        0,
-        0,
-        0,
-        0,
-        0,
-        0,
-        0,
-        0,
-        0,
-        0,
-        0,
-        0,
-    ]
+    let mut row = [0; 24];
+    row[0] = b.count;
+    row[1] = b.system.0;
+    row[2] = standing_tag(b.standing);
+    row[3] = standing_sender(b.standing);
+    row[4] = standing_value(b.standing);
+    row[5] = has_end(b.standing) as u8;
+    row
 }
 
 // A row for each place, then the last row.
+#[tactic(auto, using(crate::proofs::Loops::turn), unfolding(crate::specs::Image::rows_of))]
 pub fn rows_of(b: Bus) -> [[u8; 24]; 16]
     ensures { result ≡ rows_of b }
 {
-    let parties = b.parties;
-    let last = last_row(b);
-    let mut rows = [last; 16];
-    let mut k: usize = 0;
-    while k < 15 {
-        let row = row_of(parties[k]);
-        rows[k] = row;
-        k = k + 1;
+    let mut out = [last_row(b); 16];
+    for k in 0..15 {
+        out[k] = row_of(b.parties[k]);
     }
-    rows
+    out
 }

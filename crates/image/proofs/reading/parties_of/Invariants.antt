@@ -1,11 +1,8 @@
--- After k turns the first k elements are written.
-use Rattle.std.proofs.Common.{◌≡◌, ◌≤◌, ◌-◌}
+-- After k turns the first k parties are read.
+use Rattle.std.proofs.Common.{◌≡◌, map}
+use lib.Seq.{paste}
 use Rattle.image.specs.Image.{party_of}
-use Rattle.image.proofs.Loops.{filled}
 use Rattle.image.proofs.reading.parties_of.Given as goal
 
 abbrev pub invariant-loop-k : goal.invariant-loop-k
-invariant-loop-k l = (l.k ≤ 15) × (l.out ≡ filled party_of l.rows l.initial.out l.k)
-
-abbrev pub decreases-loop-k : goal.decreases-loop-k
-decreases-loop-k l = 15 - l.k
+invariant-loop-k l = l.out ≡ paste l.initial.out 0 (map party_of l.rows) l.k
