@@ -9,7 +9,8 @@
 -- queue over and over is round robin, and equal waiting begins with the queue in the tie order.
 --
 -- Sorting, ByAddress. By numbers and then by an order is an order again, so by address is one. A key has all that its
--- place is ordered by, and keys are put in order one by one, each between those before it.
+-- place is ordered by. The keys taken down place by place are those of the order, and two ascending lists of the same
+-- numbers are one list, so sorting them gives the order.
 --
 -- Lists, Led, Counts, Giving. Lists in which runs stand for their steps, so that every bus there is keeps the
 -- invariant; what the counts say; and how far the loop of the code has come.

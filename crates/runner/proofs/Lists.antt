@@ -28,7 +28,7 @@ count_kept after.Clear t b i e = refl
 count_kept after.Poll t b i e = refl
 
 pub call_count : (b : Bus) (c : Call) → (m.call b c).bus.count ≡ b.count
-call_count b c = cond-elim (λ (a : Answer). a.bus.count ≡ b.count) (is_accepted (m.refusal (lines b) b c))
+call_count b c = cond-elim (λ (a : Answer). a.bus.count ≡ b.count) (is_accepted (m.verdict (lines b) b c))
     (λ _. let e = effect_of (m.view_at (place_of c) (lines b) b) c in
     count_kept e.after (lines b).atn b (place_of c).0 e)
     (λ _. refl)

@@ -1,13 +1,14 @@
 -- Lists of places: which are in them, that each is there once, and that each stands before every later one.
 -- Assumes nothing.
-use mathlib.Core.Path.{◌≡◌, refl, sym, ap, ◌∙◌}
-use mathlib.Core.Bool.{Bool, true, false, not, ◌&&◌, ◌||◌, or_assoc, or-false}
+use mathlib.Core.Path.{◌≡◌, refl, sym}
+use mathlib.Core.Bool.{Bool, true, false, not, ◌&&◌, ◌||◌, or_assoc}
 use mathlib.Core.List.{List, [], ◌∷◌, ◌++◌}
 use Prim.Native.Nat.{ℕ, zero, suc, ◌<◌}
 use native.Mathlib.Nat.{not-suc-le-zero, le_of_suc-le-suc}
 use lib.ListN.{length, get_or}
 use lib.Dec.{eqb}
-use borrow.Author.Tests.{eqb-true, eq-eqb, ne_eqb}
+use native.Mathlib.Omega.{arith}
+use Rattle.std.proofs.lemmas.Bool.Decides.{nat_tests}
 use Rattle.role.proofs.Logic.{no, or_right}
 
 abbrev pub member : ℕ → List ℕ → Bool
@@ -24,49 +25,36 @@ Chain R [] = Unit {0}
 Chain R (x ∷ xs) = ((y : ℕ) → member y xs ≡ true → R x y ≡ true) × Chain R xs
 
 pub first_in : (x : ℕ) (xs : List ℕ) → member x (x ∷ xs) ≡ true
-first_in x xs = rw (eq-eqb x x refl) refl
+first_in x xs = grind (arith, nat_tests)
 
 pub member_append : (k : ℕ) (xs ys : List ℕ) → member k (xs ++ ys) ≡ (member k xs || member k ys)
 member_append k [] ys = refl
 member_append k (x ∷ xs) ys = rw (member_append k xs ys) (sym (or_assoc (eqb k x) (member k xs) (member k ys)))
 
 pub split : (x y : Bool) → (not x && y) ≡ true → (x ≡ false) × (y ≡ true)
-split true y e = no (cc)
-split false y e = (refl, e)
+split x y e = grind arith
 
 pub or_other : (x y : Bool) → (x || y) ≡ true → x ≡ false → y ≡ true
-or_other true y e f = no (cc)
-or_other false y e f = e
-
-pub or_neither : (x y : Bool) → (x || y) ≡ false → (x ≡ false) × (y ≡ false)
-or_neither true y e = no (cc)
-or_neither false y e = (refl, e)
+or_other x y e f = grind arith
 
 pub apart : (xs : List ℕ) (x y : ℕ) → member x xs ≡ false → member y xs ≡ true → y ≡ x → ⊥
-apart xs x y f t e = let z = ap (λ (j : ℕ). member j xs) e in no (cc)
-
--- who is not in the list is not its first
-pub not_first : (x y : ℕ) → eqb x y ≡ false → y ≡ x → ⊥
-not_first x y f e = no (let z = eq-eqb x y (sym e) in cc)
+apart xs x y f t e = grind (arith, nat_tests)
 
 pub distinct_snoc : (xs : List ℕ) (x : ℕ) → member x xs ≡ false → distinct xs ≡ true → distinct (xs ++ (x ∷ [])) ≡ true
 distinct_snoc [] x f d = refl
-distinct_snoc (y ∷ ys) x f d = let N = or_neither (eqb x y) (member x ys) f in
-    let D = split (member y ys) (distinct ys) d in
-    rw (member_append y ys (x ∷ []), D.0, ne_eqb y x (not_first x y N.0), distinct_snoc ys x N.1 D.1) refl
+distinct_snoc (y ∷ ys) x f d =
+    let m = member_append y ys (x ∷ []) in
+    let h = distinct_snoc ys x in grind (arith, nat_tests)
 
 pub chain_snoc : (R : ℕ → ℕ → Bool) (xs : List ℕ) (x : ℕ) → Chain R xs → ((y : ℕ) → member y xs ≡ true → R y x ≡ true)
     → Chain R (xs ++ (x ∷ []))
 chain_snoc R [] x c h = (λ y e. no (cc), tt)
 chain_snoc R (y ∷ ys) x c h = (
-  λ z e. last z (eqb z x) refl (rw (member_append z ys (x ∷ [])) at e),
-  chain_snoc R ys x
-      c.1 (λ z e. h z (or_right (eqb z y) e)),
+  λ z e. let m = member_append z ys (x ∷ []) in
+      let o = c.0 z in
+      let i = h y (first_in y ys) in grind (arith, nat_tests),
+  chain_snoc R ys x c.1 (λ z e. h z (or_right (eqb z y) e)),
 )
-  where
-    last : (z : ℕ) (u : Bool) → eqb z x ≡ u → (member z ys || (u || false)) ≡ true → R y z ≡ true
-    last z true e m = rw (eqb-true z x e) (h y (first_in y ys))
-    last z false e m = c.0 z (sym (or-false (member z ys)) ∙ m)
 
 -- what stands in a list is one of its members
 pub member_at : (xs : List ℕ) (j : ℕ) → j < length xs → member (get_or xs j 0) xs ≡ true

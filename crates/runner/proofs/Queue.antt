@@ -6,14 +6,16 @@ use mathlib.Core.Bool.{true, false, or_comm, or-false}
 use mathlib.Core.List.{List, [], ◌∷◌, ◌++◌, map}
 use Prim.Native.Nat.{ℕ, zero, suc, ◌<◌}
 use native.Mathlib.Omega.{arith}
-use native.Mathlib.Nat.{not-suc-le-zero, le_of_suc-le-suc}
-use lib.ListN.{length, get_or, replicate, length-set, length-map, length-replicate}
+use lib.ListN.{length, replicate, length-set, length-map, length-replicate}
 use lib.Seq.{get_or-set_same, get_or-set_other}
 use lib.Dec.{ltb, eqb}
-use borrow.Author.Tests.{eqb-true, eqb-false, eq-eqb, ne_eqb, ltb-true, ltb-false, lt-ltb, le-ltb}
-use Rattle.role.proofs.Logic.{no, test, or_right}
+use borrow.Author.Tests.{ltb-true, lt-ltb}
+use Rattle.std.proofs.lemmas.List.{get_or-map}
+use Rattle.std.proofs.lemmas.Bool.Decides.{nat_tests}
+use Rattle.std.proofs.lemmas.Grind.{common_steps}
+use Rattle.role.proofs.Logic.{no, or_right}
 use Rattle.runner.specs.Waiting.{TieOrder, wait_of, goes_before, longest_waiting, waited, turns_from, Orders}
-use Rattle.runner.proofs.Members.{member, distinct, Chain, first_in, member_append, split, or_other, apart}
+use Rattle.runner.proofs.Members.{member, distinct, Chain, first_in, member_append, split, apart}
 use Rattle.runner.proofs.Members.{distinct_snoc, chain_snoc, chain_map}
 use Rattle.runner.proofs.Longest.{chosen}
 
@@ -22,19 +24,6 @@ pub record Queue (tie : TieOrder) (n : ℕ) (ws : List ℕ) (q : List ℕ) : Typ
   pub members : (k : ℕ) → member k q ≡ ltb k n
   pub once : distinct q ≡ true
   pub chain : Chain (goes_before tie ws) q
-
-get_or_suc : (ws : List ℕ) (y : ℕ) → y < length ws → get_or (map suc ws) y 0 ≡ suc (get_or ws y 0)
-get_or_suc [] y h = absurd (not-suc-le-zero h)
-get_or_suc (w ∷ ws) zero h = refl
-get_or_suc (w ∷ ws) (suc y) h = get_or_suc ws y (le_of_suc-le-suc h)
-
-suc_ltb : (a b : ℕ) → ltb (suc a) (suc b) ≡ ltb a b
-suc_ltb a b = test (ltb a b) (λ h. lt-ltb (suc a) (suc b) (let z = ltb-true a b h in omega arith) ∙ sym h)
-    (λ h. le-ltb (suc a) (suc b) (let z = ltb-false a b h in omega arith) ∙ sym h)
-
-suc_eqb : (a b : ℕ) → eqb (suc a) (suc b) ≡ eqb a b
-suc_eqb a b = test (eqb a b) (λ h. eq-eqb (suc a) (suc b) (ap suc (eqb-true a b h)) ∙ sym h)
-    (λ h. ne_eqb (suc a) (suc b) (λ e. eqb-false a b h (omega arith)) ∙ sym h)
 
 -- turns by turning the queue
 abbrev pub rota : ℕ → List ℕ → List ℕ
@@ -55,11 +44,11 @@ module _ (tie : TieOrder) (n : ℕ) (O : Orders tie n) where
 
     head_chosen : longest_waiting tie ws ≡ x
     head_chosen = rw Q.size (chosen tie ws n O x head_in
-        (λ y l ne. Q.chain.0 y (or_other (eqb y x) (member y xs) (Q.members y ∙ lt-ltb y n l) (ne_eqb y x ne))))
+        (λ y l ne. let m = Q.members y in let o = Q.chain.0 y in grind (arith, nat_tests)))
 
     later : (y : ℕ) → member y xs ≡ true → wait_of (waited x ws) y ≡ suc (wait_of ws y)
     later y e = get_or-set_other (map suc ws) x y 0 0 (apart xs x y alone.0 e)
-        ∙ get_or_suc ws y (rw Q.size (inside y (or_right (eqb y x) e)))
+        ∙ get_or-map suc ws y 0 0 (rw Q.size (inside y (or_right (eqb y x) e)))
 
     first : wait_of (waited x ws) x ≡ 0
     first = get_or-set_same (map suc ws) x 0 0 (let h = head_in in let z = Q.size in rw length-map (omega arith))
@@ -72,14 +61,8 @@ module _ (tie : TieOrder) (n : ℕ) (O : Orders tie n) where
       once = distinct_snoc xs x alone.0 alone.1;
       chain = chain_snoc (goes_before tie (waited x ws)) xs x
           (chain_map (goes_before tie ws) (goes_before tie (waited x ws)) xs
-          (λ y z e f g. rw (
-            later y e,
-            later z f,
-            suc_ltb (wait_of ws z) (wait_of ws y),
-            suc_eqb (wait_of ws y)
-                (wait_of ws z),
-          ) g) Q.chain.1)
-          (λ y e. rw (first, later y e, lt-ltb 0 (suc (wait_of ws y)) (omega arith)) refl);
+          (λ y z e f g. let a = later y e in let b = later z f in grind (arith, nat_tests)) Q.chain.1)
+          (λ y e. let a = later y e in let z = first in grind (arith, nat_tests));
     }
 
   pub turns_rota : 0 < n → (t : ℕ) (ws q : List ℕ) → Queue tie n ws q → turns_from tie t ws ≡ rota t q
@@ -89,9 +72,7 @@ module _ (tie : TieOrder) (n : ℕ) (O : Orders tie n) where
       (ap (λ (r : List ℕ). x ∷ r) (turns_rota l t (waited x ws) (xs ++ (x ∷ [])) (moved ws x xs Q)))
 
 pub wait_zero : (n x : ℕ) → wait_of (replicate n 0) x ≡ 0
-wait_zero zero x = refl
-wait_zero (suc n) zero = refl
-wait_zero (suc n) (suc x) = wait_zero n x
+wait_zero n x = grind (arith, common_steps)
 
 -- where all wait equally long, any list of the places in the tie order is the queue
 pub start_queue : (tie : TieOrder) (n : ℕ) (q : List ℕ) → ((k : ℕ) → member k q ≡ ltb k n) → distinct q ≡ true
@@ -100,5 +81,6 @@ start_queue tie n q m d c = record {
   size = length-replicate n 0;
   members = m;
   once = d;
-  chain = chain_map tie (goes_before tie (replicate n 0)) q (λ x y e f g. rw (wait_zero n x, wait_zero n y) g) c;
+  chain = chain_map tie (goes_before tie (replicate n 0)) q
+      (λ x y e f g. let a = wait_zero n x in let b = wait_zero n y in grind (arith, nat_tests)) c;
 }

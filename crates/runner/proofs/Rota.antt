@@ -6,6 +6,7 @@ use Prim.Native.Nat.{ℕ, zero, suc, ◌+◌, ◌-◌, ◌%◌, ◌≤◌, ◌<�
 use native.Mathlib.Omega.{arith}
 use native.Mathlib.Nat.{not-suc-le-zero, le_of_suc-le-suc, suc-add, zero-add, mod-eq_of_lt, add-mod_left}
 use lib.ListN.{length, get_or, length-append, get_or-append}
+use lib.Seq.{get_or-append-add}
 use lib.Dec.{ltb}
 use borrow.Author.Tests.{ltb-true, ltb-false}
 use Rattle.role.proofs.Logic.{test}
@@ -24,10 +25,6 @@ pub rota_length : (t x : ℕ) (xs : List ℕ) → length (rota t (x ∷ xs)) ≡
 rota_length zero x xs = refl
 rota_length (suc t) x [] = ap suc (rota_length t x [])
 rota_length (suc t) x (y ∷ ys) = ap suc (rota_length t y (ys ++ (x ∷ [])))
-
-get_or_right : (xs ys : List ℕ) (k : ℕ) → get_or (xs ++ ys) (length xs + k) 0 ≡ get_or ys k 0
-get_or_right [] ys k = rw (zero-add k) refl
-get_or_right (x ∷ xs) ys k = rw (suc-add (length xs) k) (get_or_right xs ys k)
 
 -- the first round
 rota_start : (t x : ℕ) (xs : List ℕ) (k : ℕ) → k < t → k < suc (length xs)
@@ -52,7 +49,7 @@ rota_mod (suc f) t x xs k h l = test (ltb k (suc (length xs)))
     ap (λ (j : ℕ). get_or (rota j (x ∷ xs)) k 0) b
     ∙ ap (λ (r : List ℕ). get_or r k 0) (rota_round (x ∷ xs) (t - suc (length xs)))
     ∙ ap (λ (j : ℕ). get_or ((x ∷ xs) ++ rota (t - suc (length xs)) (x ∷ xs)) j 0) a
-    ∙ get_or_right (x ∷ xs) (rota (t - suc (length xs)) (x ∷ xs)) (k - suc (length xs))
+    ∙ get_or-append-add (x ∷ xs) (rota (t - suc (length xs)) (x ∷ xs)) (k - suc (length xs)) 0
     ∙ rota_mod f (t - suc (length xs)) x xs (k - suc (length xs)) (omega arith) (omega arith)
     ∙ ap (λ (j : ℕ). get_or (x ∷ xs) j 0) (sym (add-mod_left (suc (length xs)) (k - suc (length xs))) ∙ ap
     (λ (j : ℕ). j % suc (length xs)) (sym a)))

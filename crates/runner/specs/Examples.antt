@@ -17,6 +17,7 @@ use Rattle.runner.specs.Waiting.{by_place, longest_waiting, turns}
 use Rattle.runner.specs.Runner.{turns_of, give_turns}
 use Rattle.runner.specs.Lists.{Item, call, led_by}
 use Rattle.runner.specs.Ties.{by_address}
+use Rattle.std.specs.Prelude.{Ok, Err}
 
 -- Of document 01's script the calls before the first step: party 0 talks, party 1 listens, 41 with END is held.
 abbrev before : List Item
@@ -34,7 +35,7 @@ abbrev given : ℕ → Given
 given t = give_turns (by_address (after before)) (after before) t
 
 abbrev 41_is_read : Report
-41_is_read = record { refusal = ruling.Accepted; event = ev.Read; byte = 65; end = true; dropped = 0; broken = 0 }
+41_is_read = record { verdict = Ok tt; event = ev.Read; byte = 65; end = true; dropped = 0; broken = 0 }
 
 pub record Examples : Type 0 where
   -- the longest waiting, and of two that have waited equally long the lower place
@@ -52,4 +53,4 @@ pub record Examples : Type 0 where
   pub script_ends : report_of (m.call (given 7).bus (call_of.Of (place 1) act_of.Read)) ≡ 41_is_read
   -- "a bus of no parties is refused with 1, all counts 0"
   pub nobody : give_turns (by_address no_parties) no_parties 65535
-      ≡ record { refusal = ruling.NoParty; counts = replicate 15 0; bus = no_parties }
+      ≡ record { verdict = Err ruling.NoParty; counts = replicate 15 0; bus = no_parties }

@@ -7,9 +7,9 @@ use Rattle.bus.specs.Record.{build_extended}
 use Rattle.bus.specs.Machine as m
 use Rattle.bus.specs.Delivery.{Delivered}
 use Rattle.bus.specs.Types.{Place, Name, Call}
-use Rattle.bus.specs.Types.ruling
 use Rattle.runner.specs.Waiting.{TieOrder}
 use Rattle.runner.specs.Runner.{steps, turns_of, give_turns}
+use Rattle.std.specs.Prelude.{Ok}
 
 -- What a host does: a call, or a run of so many turns. A list has these for its items.
 pub data Item : Type 0 where
@@ -36,7 +36,7 @@ StandsForSteps = (tie : Bus → TieOrder) (b : Bus) (xs : List Item) → led_by 
 
 -- How a bus starts, and what its parties are named: "a bus that an accepted build gave".
 pub data Start (names : List Name) : Bus → Type 0 where
-  built : (system : Place) → (build_extended names system).refusal ≡ ruling.Accepted
+  built : (system : Place) → (build_extended names system).verdict ≡ Ok tt
       → Start names (build_extended names system).bus
 
 -- The buses that such a start and any list of calls and runs lead to, whatever order ties go by.

@@ -7,12 +7,13 @@ use Rattle.effect.specs.Calls.{act_number}
 use Rattle.bus.specs.declared.Bus.{Bus}
 use Rattle.bus.specs.Machine as m
 use Rattle.bus.specs.Delivery.{tally, history}
-use Rattle.bus.specs.Types.{Call, Refusal}
+use Rattle.bus.specs.Types.{Call, Verdict}
 use Rattle.runner.specs.declared.Given.{Given}
 use Rattle.bus.specs.Types.ruling
 use Rattle.bus.specs.Types.call_of
 use Rattle.bus.specs.Types.act_of
 use Rattle.runner.specs.Waiting.{TieOrder, turns}
+use Rattle.std.specs.Prelude.{Ok, Err}
 
 -- The call that steps the party at a place; a step for each place of a list.
 abbrev pub step_of : ℕ → Call
@@ -32,14 +33,14 @@ counted counts [] = counts
 counted counts (x ∷ xs) = counted (set counts x (get_or counts x 0 + 1)) xs
 
 -- "a bus of no parties is refused with 1"
-abbrev pub refusal_of : Bus → Refusal
-refusal_of b = cond (eqb b.count 0) ruling.NoParty ruling.Accepted
+abbrev pub verdict_of : Bus → Verdict
+verdict_of b = cond (eqb b.count 0) (Err ruling.NoParty) (Ok tt)
 
 -- The whole answer of a run, and the bus after it. The refused run has no turns: its bus is unchanged, and its counts
 -- are all 0.
 abbrev pub give_turns : TieOrder → Bus → ℕ → Given
 give_turns tie b t = record {
-  refusal = refusal_of b;
+  verdict = verdict_of b;
   counts = counted (replicate 15 0) (turns_of tie b t);
   bus = m.run b (steps (turns_of tie b t));
 }

@@ -2,12 +2,12 @@
 -- primary address, then the lowest secondary."
 -- Assumes nothing.
 use Rattle.std.specs.Prelude.{ℕ, ◌+◌, ◌&&◌, ◌||◌, ltb, eqb}
-use Rattle.names.specs.declared.Secondary.{Secondary}
-use Rattle.names.specs.declared.Secondary.TheVariants.{Absent, Given}
 use Rattle.bus.specs.declared.Bus.{Bus}
 use Rattle.bus.specs.Record.{here}
 use Rattle.bus.specs.Types.{Name}
 use Rattle.runner.specs.Waiting.{TieOrder, by_place, Orders}
+use Rattle.std.specs.Prelude.{Option, Some, None}
+use Rattle.message.specs.declared.SecondaryAddress.{SecondaryAddress}
 
 abbrev pub name_at : Bus → ℕ → Name
 name_at b x = (here b x).role.name
@@ -16,9 +16,9 @@ abbrev pub primary_at : Bus → ℕ → ℕ
 primary_at b x = (name_at b x).address.0
 
 -- A party without a secondary comes before those with one; no build has both at one primary.
-abbrev pub rank : Secondary → ℕ
-rank Absent = 0
-rank (Given s) = s.0 + 1
+abbrev pub rank : Option SecondaryAddress → ℕ
+rank None = 0
+rank (Some s) = s.0 + 1
 
 abbrev pub secondary_at : Bus → ℕ → ℕ
 secondary_at b x = rank (name_at b x).secondary

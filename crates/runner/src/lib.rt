@@ -1,12 +1,12 @@
 // The runner: it gives a stated number of turns.
 #![tactic(auto)]
 
-ghost use Rattle.std.specs.Prelude.{◌≡◌, ◌+◌, ◌%◌, ◌<◌};
+ghost use Rattle.std.specs.Prelude.{◌≡◌};
 ghost use Rattle.runner.specs.Ties.{by_address};
 ghost use Rattle.runner.specs.Runner.{give_turns};
 
 use bus::Bus;
-use effect::Refusal;
+use effect::{Refusal, Verdict};
 use parties::every::within;
 use party::Place;
 
@@ -15,17 +15,9 @@ mod order;
 // What a run answers: how many turns each place had, and the bus after them.
 #[derive(Clone, Copy)]
 pub struct Given {
-    pub refusal: Refusal,
+    pub verdict: Verdict,
     pub counts: [u16; 15],
     pub bus: Bus,
-}
-
-// Who comes next in a round of n.
-fn next_in_round(i: usize, n: usize) -> usize
-    requires { i < n }
-    ensures { result ≡ (i + 1) % n }
-{
-    if i + 1 < n { i + 1 } else { 0 }
 }
 
 // Steps the party that has waited longest, ties by address, until it has given so many turns. All parties wait equally
@@ -36,7 +28,7 @@ pub fn give_turns(bus: Bus, turns: u16) -> Given
     let mut counts = [0u16; 15];
     if bus.count == 0 {
         return Given {
-            refusal: Refusal::NoParty,
+            verdict: Err(Refusal::NoParty),
             counts,
             bus,
         };
@@ -44,19 +36,13 @@ pub fn give_turns(bus: Bus, turns: u16) -> Given
     let n = within(bus.count);
     let keys = order::keys_in_order(bus);
     let mut after = bus;
-    let mut i: usize = 0;
-    let mut t: u16 = 0;
-    while t < turns {
-        let place = keys[i] % 16;
-        let answer = after.step(Place(place as u8));
-        after = answer.bus;
-        let k = place as usize;
-        counts[k] = counts[k] + 1;
-        i = next_in_round(i, n);
-        t = t + 1;
+    for t in 0..turns {
+        let place = keys[usize::from(t) % n] % 16;
+        after = after.step(Place(place as u8)).bus;
+        counts[place as usize] += 1;
     }
     Given {
-        refusal: Refusal::Accepted,
+        verdict: Ok(()),
         counts,
         bus: after,
     }
