@@ -4,8 +4,8 @@ use mathlib.Core.Path.{◌≡◌, refl}
 use mathlib.Core.Bool.{true}
 use Prim.Native.Nat.{ℕ, zero, suc, ◌<◌}
 use native.Mathlib.Nat.{not-suc-le-zero, le_of_suc-le-suc}
+use Rattle.std.specs.Prelude.{None}
 use Rattle.bus.specs.Record.{here}
-use Rattle.bus.specs.Types.{Empty}
 use Rattle.runner.specs.Examples.{after}
 use Rattle.bound_laws.specs.Bound.{Offered}
 use Rattle.bound_laws.specs.Examples.{slow, Examples}
@@ -22,7 +22,7 @@ offered = record {
   empty = each;
 }
   where
-    each : (j : ℕ) → j < 2 → (here (after slow) j).input ≡ Empty
+    each : (j : ℕ) → j < 2 → (here (after slow) j).input ≡ None
     each zero l = refl
     each (suc zero) l = refl
     each (suc (suc j)) l = absurd (not-suc-le-zero (le_of_suc-le-suc (le_of_suc-le-suc l)))

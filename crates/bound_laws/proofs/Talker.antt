@@ -7,16 +7,17 @@ use Prim.Native.Nat.{ℕ, ◌+◌, ◌-◌, ◌≤◌, ◌<◌}
 use native.Mathlib.Omega.{arith}
 use lib.Dec.{eqb}
 use borrow.Author.Tests.{eqb-true, eqb-false}
+use Rattle.std.specs.Prelude.{Option, Some, None}
 use Rattle.party.specs.Parts.{with_source, with_held}
 use Rattle.party.specs.Driving.{is_active, drives_nrfd, drives_ndac}
-use Rattle.offer.specs.Offer.{kind_of}
+use Rattle.offer.specs.Offer.{kind_of, byte}
 use Rattle.party.specs.Sending.{is_source, is_polled, offer}
 use Rattle.party.specs.Settling.{settled}
 use Rattle.role.proofs.Logic.{no, test}
 use Rattle.party.proofs.Settled.{settled_keeps}
-use Rattle.parties.specs.Places.{place, at, other_talker}
+use Rattle.parties.specs.Places.{place}
 use Rattle.parties.proofs.Places.{some_seen, some_none, some_true}
-use Rattle.effect.specs.Stands.{stands}
+use Rattle.effect.specs.Stands.{stands, sent}
 use Rattle.effect.specs.Effects.{say, does, stay}
 use Rattle.source_step.specs.SourceStep.{put, noacc, ended, source_step}
 use Rattle.bus.specs.declared.Bus.{Bus}
@@ -30,8 +31,7 @@ use Rattle.bus.proofs.Accepting.{stands_dav}
 use Rattle.bus.proofs.Summary.{Shape, keeps, puts, ends, breaks}
 use Rattle.bus.proofs.EachCall.{call_good}
 use Rattle.bus.proofs.Reached.{one_source_lem}
-use Rattle.bus.specs.Types.{Party, Source, Sids, Sgns, Sdys, Strs, Aids, Anrs, Empty, Full, Data, Standing}
-use Rattle.bus.specs.Types.{Nothing, Byte, Said, Call}
+use Rattle.bus.specs.Types.{Party, Source, Sids, Sgns, Sdys, Strs, Aids, Anrs, Data, Standing, Said, Call}
 use Rattle.bus.specs.Types.ev
 use Rattle.runner.specs.Runner.{step_of}
 use Rattle.runner.proofs.Lists.{call_count}
@@ -51,7 +51,8 @@ pub record Lowers (f : Party → ℕ) (b c : Bus) (i : ℕ) : Type 0 where
   pub own : f (here c i) ≤ f (here b i) - 1
 
 -- a call after which nothing stands put nothing up
-not_put_lem : (st : Standing) (c : Call) (a : Answer) → Shape st c a → a.bus.standing ≡ Nothing → is_put a.event ≡ false
+not_put_lem : (st : Option Standing) (c : Call) (a : Answer) → Shape st c a → a.bus.standing ≡ None
+    → is_put a.event ≡ false
 not_put_lem st c a (keeps p e k s) n = p
 not_put_lem st c a (puts p e k z r d w s) n = no (cc)
 not_put_lem st c a (ends p e k r d w z s) n = p
@@ -59,6 +60,10 @@ not_put_lem st c a (breaks p e k u s) n = p
 
 -- Of n parties p talks, w listens, and p's byte is v, END e.
 module _ (n p w v : ℕ) (e : Bool) where
+  -- what stands once the byte is put
+  abbrev pub its_byte : Option Standing
+  its_byte = Some (sent (place p) Data v e)
+
   pub record Base (b : Bus) : Type 0 where
     pub inv : Inv b
     pub count : b.count ≡ n
@@ -70,17 +75,17 @@ module _ (n p w v : ℕ) (e : Bool) where
   -- the byte waits
   pub record Waits (b : Bus) : Type 0 where
     pub base : Base b
-    pub none : b.standing ≡ Nothing
+    pub none : b.standing ≡ None
     pub unpolled : (here b p).role.poll ≡ false
-    pub held : (here b p).held ≡ Full v e
+    pub held : (here b p).held ≡ Some (byte v e)
     pub source : ((here b p).source ≡ Sgns) ⊎ ((here b p).source ≡ Sdys)
-    pub empty : (j : ℕ) → (here b j).input ≡ Empty
+    pub empty : (j : ℕ) → (here b j).input ≡ None
     pub part : (here b w).acceptor ≡ Aids → ⊥
 
   -- the byte stands
   pub record Sent (b : Bus) : Type 0 where
     pub base : Base b
-    pub byte : b.standing ≡ Byte (place p) Data v e
+    pub byte : b.standing ≡ its_byte
     pub source : (here b p).source ≡ Strs
 
   module _ (b : Bus) (B : Base b) where
@@ -91,9 +96,8 @@ module _ (n p w v : ℕ) (e : Bool) where
     own_source = rw (B.quiet, nobody p, B.talks) refl
 
     other_source : (i : ℕ) → (i ≡ p → ⊥) → is_source (atn_of b) (here b i) ≡ false
-    other_source i ne = test (is_source (atn_of b) (here b i)) (λ h. absurd (ne (one_source_lem b B.inv i p h
-        own_source)))
-        (λ h. h)
+    other_source i ne = test (is_source (atn_of b) (here b i))
+        (λ h. absurd (ne (one_source_lem b B.inv i p h own_source))) (λ h. h)
 
     accepts : (i : ℕ) → i < n → (i ≡ p → ⊥) → Accepts b i
     accepts i l ne = (rw B.count l, other_source i ne)
@@ -104,8 +108,7 @@ module _ (n p w v : ℕ) (e : Bool) where
     inn : p < b.count
     inn = rw B.count B.there
 
-    as_sends : m.call b (step_of p)
-        ≡ follow (atn_of b) b p (source_step (m.view_at (place p) (lines b) b))
+    as_sends : m.call b (step_of p) ≡ follow (atn_of b) b p (source_step (m.view_at (place p) (lines b) b))
     as_sends = source_step_lem b B.inv p inn own_source
 
     -- a step of another party keeps the base
@@ -126,7 +129,7 @@ module _ (n p w v : ℕ) (e : Bool) where
         talker = other_kept b B.inv i A p (λ h. ne (sym h))
 
     -- a step of the talker that changes it alone
-    module _ (s : Said) (q : Party) (st : Standing) (eq : m.call b (step_of p) ≡ local b p s q st)
+    module _ (s : Said) (q : Party) (st : Option Standing) (eq : m.call b (step_of p) ≡ local b p s q st)
         (ec : is_active q ≡ is_active (here b p)) (et : q.role.talk ≡ (here b p).role.talk)
         (ea : q.acceptor ≡ (here b p).acceptor) where
       own_place : here (m.call b (step_of p)).bus p ≡ settled (atn_of b) q
@@ -165,7 +168,7 @@ module _ (n p w v : ℕ) (e : Bool) where
     abbrev P : Party
     P = here b p
 
-    silent : (i : ℕ) → (m.call b (step_of i)).bus.standing ≡ Nothing → is_put (m.call b (step_of i)).event ≡ false
+    silent : (i : ℕ) → (m.call b (step_of i)).bus.standing ≡ None → is_put (m.call b (step_of i)).event ≡ false
     silent i = not_put_lem b.standing (step_of i) (m.call b (step_of i)) (call_good b B.inv (step_of i)).shape
 
     -- another party's step
@@ -206,7 +209,7 @@ module _ (n p w v : ℕ) (e : Bool) where
         Bc : Base c
         Bc = base_other b B i l ne
 
-        still : c.standing ≡ Nothing
+        still : c.standing ≡ None
         still = standing_kept b B.inv i A ∙ O.none
 
         talker : here c p ≡ here b p
@@ -255,7 +258,7 @@ module _ (n p w v : ℕ) (e : Bool) where
         Bc : Base c
         Bc = base_own b B s q b.standing eq refl refl refl
 
-        still : c.standing ≡ Nothing
+        still : c.standing ≡ None
         still = ap (λ (a : Answer). a.bus.standing) eq ∙ O.none
 
         own : here c p ≡ settled (atn_of b) q
@@ -271,7 +274,7 @@ module _ (n p w v : ℕ) (e : Bool) where
     touched : (s : Said) (q : Party) → settle (atn_of b) b p (does s q b.standing) ≡ local b p s q b.standing
     touched s q = touch_local b B.inv p (inn b B) s q b.standing (rw O.none refl)
 
-    offered : offer (is_polled (atn_of b) P) P ≡ Full v e
+    offered : offer (is_polled (atn_of b) P) P ≡ Some (byte v e)
     offered = rw (B.quiet, B.talks, O.unpolled) O.held
 
     its_kind : kind_of (is_active P) (is_polled (atn_of b) P) ≡ Data
@@ -297,12 +300,12 @@ module _ (n p w v : ℕ) (e : Bool) where
         (some_none b.count drives_nrfd b.parties refl B.inv.pre.tail nr w) O.part)
 
     abbrev up : Party
-    up = with_source Strs (with_held Empty P)
+    up = with_source Strs (with_held None P)
 
     as_put : P.source ≡ Sdys → (lines b).nrfd ≡ false
-        → m.call b (step_of p) ≡ local b p (say ev.Data v e 0) up (Byte (place p) Data v e)
-    as_put h nr = as_ready h ∙ rw (nr, some_ndac nr) (touch_local b B.inv p (inn b B) (say ev.Data v e 0) up
-        (Byte (place p) Data v e) (rw (set_here b B.inv p (inn b B) up, own_source b B) refl))
+        → m.call b (step_of p) ≡ local b p (say ev.Data v e 0) up its_byte
+    as_put h nr = as_ready h ∙ rw (nr, some_ndac nr) (touch_local b B.inv p (inn b B) (say ev.Data v e 0) up its_byte
+        (rw (set_here b B.inv p (inn b B) up, own_source b B) refl))
 
     waits_talker : (Put b p × Sent (m.call b (step_of p)).bus) ⊎ Waited b p
     waits_talker = go O.source
@@ -321,10 +324,9 @@ module _ (n p w v : ℕ) (e : Bool) where
         ready h false nr = let q = as_put h nr in inl (
           (refl, ap (λ (a : Answer). a.event) q, ap (λ (a : Answer). a.byte) q, ap (λ (a : Answer). a.end) q),
           record {
-            base = base_own b B (say ev.Data v e 0) up (Byte (place p) Data v e) q refl refl refl;
+            base = base_own b B (say ev.Data v e 0) up its_byte q refl refl refl;
             byte = ap (λ (a : Answer). a.bus.standing) q;
-            source = ap (λ (y : Party). y.source)
-                (own_place b B (say ev.Data v e 0) up (Byte (place p) Data v e) q refl refl refl)
+            source = ap (λ (y : Party). y.source) (own_place b B (say ev.Data v e 0) up its_byte q refl refl refl)
                 ∙ settled_keeps (atn_of b) up refl (own_source b B);
           },
         )
@@ -368,8 +370,7 @@ module _ (n p w v : ℕ) (e : Bool) where
       keeps = (
         ap is_end (event_of b BS.inv i A)
             ∙ tock_event (m.view_at (place i) (lines b) b) BS.quiet dav up_here (here b i).acceptor calm,
-        broken_of b
-            BS.inv i A,
+        broken_of b BS.inv i A,
       );
       sent = record {
         base = base_other b BS i l ne;
@@ -398,11 +399,10 @@ module _ (n p w v : ℕ) (e : Bool) where
     as_sent = as_sends b BS ∙ rw S.source refl
 
     as_standing : (lines b).ndac ≡ true → m.call b (step_of p) ≡ local b p (say ev.None 0 false 0) (here b p) b.standing
-    as_standing nd = as_sent ∙ rw nd (touch_local b BS.inv p (inn b BS) (say ev.None 0 false 0) (here b p)
-        b.standing
+    as_standing nd = as_sent ∙ rw nd (touch_local b BS.inv p (inn b BS) (say ev.None 0 false 0) (here b p) b.standing
         (rw S.byte (rw (set_here b BS.inv p (inn b BS) (here b p), own_source b BS) refl)))
 
-    as_ended : (lines b).ndac ≡ false → m.call b (step_of p) ≡ follow (atn_of b) b p (ended (Byte (place p) Data v e)
+    as_ended : (lines b).ndac ≡ false → m.call b (step_of p) ≡ follow (atn_of b) b p (ended its_byte
         (m.view_at (place p) (lines b) b))
     as_ended nd = as_sent ∙ rw (nd, S.byte) refl
 

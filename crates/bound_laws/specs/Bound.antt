@@ -3,17 +3,18 @@
 -- empty. A single run from there of at least 7 times n turns ends that byte within its first 7 times n." Puts, standing
 -- and ending are demand 3's (crates/bus/specs/Delivery.antt).
 -- Assumes nothing.
-use Rattle.std.specs.Prelude.{ℕ, ◌*◌, ◌≤◌, ◌<◌, ◌≡◌, Bool, true, false, List}
+use Rattle.std.specs.Prelude.{ℕ, ◌*◌, ◌≤◌, ◌<◌, ◌≡◌, Bool, true, false, List, Some, None}
 use Rattle.party.specs.Sending.{is_polled}
 use Rattle.bus.specs.declared.Bus.{Bus}
 use Rattle.bus.specs.Record.{here, lines}
 use Rattle.bus.specs.Delivery.{moment, answer_at, PutAt, EndsAt, StandsAt}
-use Rattle.bus.specs.Types.{Sgns, Empty, Full, Call}
+use Rattle.bus.specs.Types.{Sgns, Call}
 use Rattle.bus.specs.Types.ev
 use Rattle.runner.specs.Waiting.{TieOrder, Orders}
 use Rattle.runner.specs.Runner.{step_of, steps, turns_of}
 use Rattle.runner.specs.Lists.{LedTo}
 use Rattle.runner.specs.Ties.{by_address}
+use Rattle.offer.specs.Offer.{byte}
 
 -- Party p talks, with the byte v, END e, held, and party w listens. That nobody else talks need not be asked: on these
 -- buses nobody does.
@@ -23,9 +24,9 @@ pub record Offered (b : Bus) (p w v : ℕ) (e : Bool) : Type 0 where
   pub talks : (here b p).role.talk ≡ true
   pub unpolled : is_polled (lines b).atn (here b p) ≡ false
   pub ready : (here b p).source ≡ Sgns
-  pub held : (here b p).held ≡ Full v e
+  pub held : (here b p).held ≡ Some (byte v e)
   pub listens : (here b w).role.listen ≡ true
-  pub empty : (j : ℕ) → j < b.count → (here b j).input ≡ Empty
+  pub empty : (j : ℕ) → j < b.count → (here b j).input ≡ None
 
 -- The byte v, END e is put up by a step of party p, the first byte of the list, and ends by another before call m.
 pub record EndsWithin (b : Bus) (cs : List Call) (p v : ℕ) (e : Bool) (m : ℕ) : Type 0 where

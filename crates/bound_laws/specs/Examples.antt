@@ -2,10 +2,7 @@
 -- Assumes nothing.
 use Rattle.std.specs.Prelude.{ℕ, ◌≡◌, true, List, [], ◌∷◌}
 use Rattle.party.specs.Parts.{one}
-use Rattle.parties.specs.Places.{place}
 use Rattle.bus.specs.Delivery.{is_end, tally, history}
-use Rattle.bus.specs.Types.call_of
-use Rattle.bus.specs.Types.act_of
 use Rattle.bus.specs.Rows.{write, listen_only, talk_only, read}
 use Rattle.runner.specs.Ties.{by_address}
 use Rattle.runner.specs.Runner.{steps, turns_of}

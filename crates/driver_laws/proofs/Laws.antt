@@ -1,15 +1,16 @@
--- Who drives each line: the counts are those of the parties, and the bits one a party; on every bus there is a
--- line is on where it is driven, and ATN and DAV are driven by one party at the most.
+-- Who drives each line: the counts are those of the parties, and the bits one a party. On every bus that calls lead to
+-- a line is on where it is driven, and ATN and DAV are driven by one party at the most.
 -- Assumes nothing.
 use mathlib.Core.Path.{◌≡◌, refl, sym, ap, ◌∙◌}
-use mathlib.Core.Bool.{true, false, not, ◌&&◌}
+use mathlib.Core.Bool.{Bool, true, false, not, cond, ◌&&◌}
 use Prim.Native.Nat.{ℕ, ◌^◌, ◌≤◌, ◌<◌}
 use native.Mathlib.Omega.{arith}
 use native.Mathlib.Nat.{zero-add, lt_of_lt_of_le}
-use lib.Dec.{ltb}
+use lib.Dec.{ltb, eqb}
 use lib.Seq.{set-get_or}
 use lib.Pow.{pow_pos, pow_mono}
 use borrow.Author.Tests.{ltb-true, ltb-false, lt-ltb, ne_eqb, eq-eqb}
+use Rattle.std.specs.Prelude.{Option, Some, None}
 use Rattle.party.specs.Parts.{idle, one}
 use Rattle.party.specs.Driving.{is_active, drives_dav, drives_nrfd, drives_ndac, drives_srq}
 use Rattle.role.proofs.Logic.{no, test}
@@ -17,12 +18,13 @@ use Rattle.party.specs.Settling.{settled}
 use Rattle.parties.specs.Places.{within}
 use Rattle.parties.proofs.Places.{each_still}
 use Rattle.parties.specs.Lines.{mask, has_driver}
+use Rattle.parties.proofs.Loops.{within_same}
 use Rattle.parties.proofs.Bits.{bits_lt, bit_at, bits_none, bit_alone, one_counted}
 use Rattle.parties.proofs.Sweeps.{within_le, line_on_lem}
 use Rattle.effect.specs.Stands.{has_end, sends_end}
 use Rattle.effect.specs.Effects.{say, does}
 use Rattle.bus.specs.declared.Bus.{Bus}
-use Rattle.bus.specs.Types.{Party, Standing, Nothing, Byte, Said}
+use Rattle.bus.specs.Types.{Party, Standing, Said}
 use Rattle.bus.specs.Types.ev
 use Rattle.bus.specs.Record.{here}
 use Rattle.bus.specs.Settling.{deserted, answered, settle}
@@ -60,24 +62,27 @@ sender_inside b I s e =
     (λ l. no (out (ltb-false s (within b.count) l)))
   where
     all : within b.count ≡ b.count
-    all =
-        let l = I.small in
-        test (ltb b.count 15) (λ h. rw h refl) (λ h. let k = ltb-false b.count 15 h in rw h (omega arith))
+    all = let l = I.small in within_same (λ (n : ℕ). n) b.count (λ h. omega arith)
 
     out : within b.count ≤ s → ◌≡◌ {A = ℕ} 0 1
     out l = let z = ap (λ (p : Party). p.source) (I.pre.tail s (rw all at l)) in let y = I.pre.sent s e in no (cc)
 
-end_on : (b : Bus) → Inv b → (st : Standing) → b.standing ≡ st
+end_on : (b : Bus) → Inv b → (st : Option Standing) → b.standing ≡ st
     → has_end st ≡ has_driver (mask (within b.count) (λ i. sends_end i st))
-end_on b I Nothing e = ap has_driver (sym (bits_none 0 (within b.count) (λ i. false) (λ i. refl)))
-end_on b I (Byte s k v false) e = ap has_driver (sym (bits_none 0 (within b.count) (λ i. false) (λ i. refl)))
-end_on b I (Byte s k v true) e =
-    let l = sender_inside b I s.0 (rw e (eq-eqb s.0 s.0 refl)) in
-    rw (bit_alone (within b.count) s.0, lt-ltb s.0 (within b.count) l)
-    (sym (ap not (ne_eqb (2 ^ s.0) 0 (λ z. bad z))))
+end_on b I None e = ap has_driver (sym (bits_none 0 (within b.count) (λ i. false) (λ i. refl)))
+end_on b I (Some st) e = go st.end
   where
-    bad : 2 ^ s.0 ≡ 0 → ⊥
-    bad z = let h = pow_pos s.0 in omega arith
+    s : ℕ
+    s = st.sender.0
+
+    bad : 2 ^ s ≡ 0 → ⊥
+    bad z = let h = pow_pos s in omega arith
+
+    go : (x : Bool) → x ≡ has_driver (mask (within b.count) (λ i. cond x (eqb i s) false))
+    go false = ap has_driver (sym (bits_none 0 (within b.count) (λ i. false) (λ i. refl)))
+    go true =
+        let l = sender_inside b I s (rw e (eq-eqb s s refl)) in
+        rw (bit_alone (within b.count) s, lt-ltb s (within b.count) l) (sym (ap not (ne_eqb (2 ^ s) 0 bad)))
 
 on : (b : Bus) → Inv b → (l : Line) → is_driven l b ≡ has_driver (mask_of l b)
 on b I Atn = sym (line_on_lem b.count b.parties I.size is_active)
@@ -92,9 +97,9 @@ on_where_driven b led = on b (led_inv b led)
 
 -- Every party has settled and the sender of what stands is a source, so that a call which changes no party changes
 -- nothing.
-sender_stays : (b : Bus) → Inv b → (st : Standing) → b.standing ≡ st → deserted (atn_of b) b.parties st ≡ false
-sender_stays b I Nothing e = refl
-sender_stays b I (Byte s k v x) e = ap not (sender_is_source b I s k v x e)
+sender_stays : (b : Bus) → Inv b → (st : Option Standing) → b.standing ≡ st → deserted (atn_of b) b.parties st ≡ false
+sender_stays b I None e = refl
+sender_stays b I (Some st) e = ap not (sender_is_source b I st.sender st.kind st.value st.end e)
 
 pub still : (b : Bus) → Inv b → (i : ℕ) (s : Said)
     → settle (atn_of b) b i (does s (here b i) b.standing) ≡ answered false s b

@@ -1,13 +1,12 @@
 -- Who drives each line, and how many they are (document 02, Q-4): what holds of the answers, which
 -- crates/bus/specs/Drivers.antt defines.
 -- Assumes nothing.
-use Rattle.std.specs.Prelude.{ℕ, ◌/◌, ◌%◌, ◌^◌, ◌≤◌, ◌<◌, ◌≡◌, Bool, false, ◌&&◌, ltb}
+use Rattle.std.specs.Prelude.{ℕ, ◌/◌, ◌%◌, ◌^◌, ◌≤◌, ◌<◌, ◌≡◌, Bool, false, ◌&&◌, ltb, Ok}
 use Rattle.std.specs.Int.Count.{ones}
 use Rattle.party.specs.Parts.{one}
 use Rattle.parties.specs.Places.{within}
 use Rattle.parties.specs.Lines.{has_driver}
 use Rattle.bus.specs.declared.Bus.{Bus}
-use Rattle.bus.specs.Types.ruling
 use Rattle.bus.specs.Types.ev
 use Rattle.bus.specs.Types.call_of
 use Rattle.bus.specs.Record.{lines, accept}
@@ -30,7 +29,7 @@ FifteenBits = (l : Line) (b : Bus) → mask_of l b < 2 ^ 15
 -- The call is never refused, on any bus, and has event none.
 abbrev pub NeverRefused : Type 0
 NeverRefused = (b : Bus) → let a = m.call b call_of.Drivers in
-    (a.refusal ≡ ruling.Accepted) × (a.event ≡ ev.None) × (a.byte ≡ 0) × (a.end ≡ false) × (a.dropped ≡ 0)
+    (a.verdict ≡ Ok tt) × (a.event ≡ ev.None) × (a.byte ≡ 0) × (a.end ≡ false) × (a.dropped ≡ 0)
 
 -- It differs from the call of lines in what it says alone: the bus after it is the same.
 abbrev pub LeavesAsLines : Type 0

@@ -1,11 +1,12 @@
 -- What a turn of a party that is no source reads and leaves.
 -- Assumes nothing.
 use mathlib.Core.Path.{◌≡◌, refl, sym, ap, ◌∙◌}
-use mathlib.Core.Bool.{Bool, true, false}
+use mathlib.Core.Bool.{Bool, false}
 use mathlib.Core.Logic.{◌⊎◌, inl, inr}
 use Prim.Native.Nat.{ℕ}
 use lib.Dec.{eqb, ltb}
 use borrow.Author.Tests.{eqb-true, eqb-false, ltb-true}
+use Rattle.std.specs.Prelude.{Option, Some, None}
 use Rattle.party.specs.Sending.{is_source}
 use Rattle.party.specs.Settling.{settled}
 use Rattle.role.proofs.Logic.{test}
@@ -13,7 +14,7 @@ use Rattle.parties.specs.Places.{place}
 use Rattle.effect.specs.Stands.{stands}
 use Rattle.acceptor_step.specs.AcceptorStep.{takes, acceptor_in, acceptor_step}
 use Rattle.bus.specs.declared.Bus.{Bus}
-use Rattle.bus.specs.Types.{Acceptor, Aids, Anrs, Acrs, Acds, Awns, Standing, Nothing, Byte, Effect, Party, View}
+use Rattle.bus.specs.Types.{Acceptor, Anrs, Acrs, Awns, Standing, Effect, Party, View}
 use Rattle.bus.specs.Record.{here, lines}
 use Rattle.bus.specs.Settling.{answered}
 use Rattle.bus.specs.Rows.{report_of}
@@ -30,16 +31,15 @@ use Rattle.order_laws.specs.Orders.{NoSource, after_turn}
 -- an acceptor step reads its party, what stands, ATN and DAV
 module _ (v w : View) (p : v.party ≡ w.party) (st : v.standing ≡ w.standing)
     (t : v.lines.atn ≡ w.lines.atn) (d : v.lines.dav ≡ w.lines.dav) where
-  reads_taking : (s : Standing) → takes s v ≡ takes s w
-  reads_taking Nothing = rw (p, st) refl
-  reads_taking (Byte s k x e) = rw (p, st, t) refl
+  reads_taking : (s : Option Standing) → takes s v ≡ takes s w
+  reads_taking None = rw (p, st) refl
+  reads_taking (Some x) = rw (p, st, t) refl
 
   reads_in : (a : Acceptor) → acceptor_in a v ≡ acceptor_in a w
-  reads_in Aids = rw (p, st) refl
   reads_in Anrs = rw (p, st, t) refl
   reads_in Acrs = rw (reads_taking v.standing, st, d, p) refl
-  reads_in Acds = rw (p, st) refl
   reads_in Awns = rw (p, st, d) refl
+  reads_in a = rw (p, st) refl
 
   reads : acceptor_step v ≡ acceptor_step w
   reads = reads_in v.party.acceptor ∙ ap (λ (q : Party). acceptor_in q.acceptor w) p
@@ -73,12 +73,7 @@ around_trans b c d A B = record {
 }
 
 around_sym : (b c : Bus) → Around b c → Around c b
-around_sym b c A = record {
-  atn = sym A.atn;
-  standing = sym A.standing;
-  count = sym A.count;
-  system = sym A.system;
-}
+around_sym b c A = record { atn = sym A.atn; standing = sym A.standing; count = sym A.count; system = sym A.system }
 
 -- All that a turn of party k can read is the same on two buses.
 pub record Alike (k : ℕ) (b c : Bus) : Type 0 where

@@ -25,7 +25,7 @@ use Rattle.runner.proofs.Led.{led_inv}
 use Rattle.runner.proofs.Lists.{run_append}
 use Rattle.order_laws.specs.Orders.{NoSource, after_turn, Swap, turns_in, SameTurns, NoSources, is_of, is_nobodys}
 use Rattle.order_laws.specs.Orders.{reports_of, SameDumps, AnyOrder, Reordered, end, same, turns, TurnOrderUnseen}
-use Rattle.order_laws.specs.Orders.{own_turns, ByItself, EachByItself}
+use Rattle.order_laws.specs.Orders.{ByItself, EachByItself}
 use Rattle.order_laws.proofs.Alike.{inv_after, Around, around_same, around_trans, Alike, alike_same, alike_trans}
 use Rattle.order_laws.proofs.Alike.{around_after, alike_other, source_kept, still_none, alike_after, same_answer}
 

@@ -5,6 +5,7 @@ use mathlib.Core.Bool.{Bool, true, false, not, cond, ◌||◌}
 use mathlib.Core.List.{List}
 use Prim.Native.Nat.{ℕ, ◌<◌}
 use native.Mathlib.Omega.{arith}
+use Rattle.std.specs.Prelude.{Option, Some, None, Ok, is_some}
 use lib.Dec.{eqb}
 use lib.ListN.{length, set}
 use lib.Seq.{get_or-set_same, get_or-set_other}
@@ -13,11 +14,10 @@ use Rattle.message.specs.Meaning.{meaning_of}
 use Rattle.role.specs.declared.Mark.{Mark}
 use Rattle.role.specs.declared.Mark.TheVariants.{Unmarked, TalkPrimary, ListenPrimary, Configuring}
 use Rattle.role.specs.declared.Response.{Response}
-use Rattle.role.specs.declared.Response.TheVariants.{Unset}
 use Rattle.role.specs.Roles.{role_heard, without_address, hear_event, passes_control}
 use Rattle.role.proofs.Logic.{no, test, cond-elim}
 use Rattle.role.proofs.Roles.{hear_events}
-use Rattle.offer.specs.Offer.{is_full, kind_of}
+use Rattle.offer.specs.Offer.{kind_of}
 use Rattle.party.specs.Parts.{idle, with_acceptor, with_source}
 use Rattle.party.specs.Driving.{is_active}
 use Rattle.party.specs.Sending.{is_source, is_polled, offer, party_heard}
@@ -31,13 +31,11 @@ use Rattle.refusals.specs.Refusals as refusals
 use Rattle.source_step.specs.SourceStep.{put, ready, ended, source_in, pass_to}
 use Rattle.acceptor_step.specs.AcceptorStep.{takes, acceptor_in}
 use Rattle.accepted.specs.Accepted.{step, acted, effect_of}
-use Rattle.host_calls.specs.HostCalls.{read_out, reset, reset_acceptor}
+use Rattle.host_calls.specs.HostCalls.{read_out, reset_acceptor}
 use Rattle.bus.specs.declared.Bus.{Bus}
 use Rattle.bus.specs.declared.Answer.{Answer}
-use Rattle.bus.specs.Types.{Place, Party, Idle, Active, Source, Sids, Sgns, Sdys, Strs, Acceptor, Aids, Anrs, Acrs}
-use Rattle.bus.specs.Types.{Acds, Awns, Slot, Empty, Full, Kind, Command, Data, Status, Standing, Nothing, Byte, Found}
-use Rattle.bus.specs.Types.{Nowhere, At, Event, Act, Call, After, Outcome, Effect, View}
-use Rattle.bus.specs.Types.ruling
+use Rattle.bus.specs.Types.{Place, Party, Idle, Active, Source, Sids, Sgns, Sdys, Strs, Acceptor, Anrs, Acrs}
+use Rattle.bus.specs.Types.{Awns, Byte, Kind, Command, Standing, Event, Act, Call, After, Outcome, Effect, View}
 use Rattle.bus.specs.Types.ev
 use Rattle.bus.specs.Types.after
 use Rattle.bus.specs.Types.call_of
@@ -52,7 +50,7 @@ use Rattle.runner.proofs.Led.{led_inv}
 use Rattle.poll_laws.specs.Kept.{is_configuring, configuration, ConfigurationKept, ConfiguredByHearing}
 use Rattle.poll_laws.specs.Kept.{ResetUnconfigures, has_heard}
 
-abbrev conf : Party → Response × Bool
+abbrev conf : Party → Option Response × Bool
 conf p = configuration p.role
 
 still_configuring : (x : Mark) → is_configuring (without_address x) ≡ is_configuring x
@@ -124,34 +122,19 @@ module _ (b : Bus) (i : ℕ) (e : Effect) where
 
 -- the acts of the host but a step and a reset
 module _ (v : View) where
-  read_conf : (s : Slot) → conf (read_out s v.party).party ≡ conf v.party
-  read_conf Empty = refl
-  read_conf (Full x e) = refl
+  read_conf : (s : Option Byte) → conf (read_out s v.party).party ≡ conf v.party
+  read_conf None = refl
+  read_conf (Some y) = refl
 
   host_conf : (a : Act) → (a ≡ act_of.Step → ⊥) → (a ≡ act_of.Reset → ⊥) → conf (acted v a).party ≡ conf v.party
   host_conf act_of.Step n r = absurd (n refl)
-  host_conf (act_of.Write x e) n r = refl
   host_conf act_of.Read n r = read_conf v.party.input
-  host_conf (act_of.PollRegister x) n r = refl
-  host_conf (act_of.ListenOnly on) n r = refl
-  host_conf (act_of.TalkOnly on) n r = refl
-  host_conf act_of.TakeControl n r = refl
-  host_conf act_of.GoToStandby n r = refl
-  host_conf act_of.InterfaceClear n r = refl
   host_conf act_of.Reset n r = absurd (r refl)
-  host_conf act_of.Drop n r = refl
-  host_conf (act_of.SecondRequest on) n r = refl
-  host_conf (act_of.DataOut x) n r = refl
-  host_conf act_of.MarkEnd n r = refl
-  host_conf act_of.BusStatus n r = refl
-  host_conf act_of.DoNothing n r = refl
-  host_conf act_of.NoRegister n r = refl
-  host_conf (act_of.OwnStatus on) n r = refl
-  host_conf act_of.ParallelPoll n r = refl
+  host_conf a n r = refl
 
 pub configuration_kept : ConfigurationKept
 configuration_kept b c j ns nr = cond-elim (λ (a : Answer). conf (here a.bus j) ≡ conf (here b j))
-    (is_accepted (m.refusal (lines b) b c)) (λ _. go c ns nr) (λ _. refl)
+    (is_accepted (m.verdict (lines b) b c)) (λ _. go c ns nr) (λ _. refl)
   where
     named : {p : Place} {a d : Act} → j ≡ p.0 → a ≡ d → call_of.Of p a ≡ call_of.Of (place j) d
     named {p = p} {d = d} q s = ap (λ (x : Act). call_of.Of p x) s ∙ ap (λ (n : ℕ). call_of.Of (place n) d) (sym q)
@@ -174,17 +157,15 @@ configuration_kept b c j ns nr = cond-elim (λ (a : Answer). conf (here a.bus j)
 
 -- A turn: the party's configuration is what the byte leaves that it hears.
 module _ (v : View) where
-  abbrev left_by : Event → ℕ → Response × Bool
+  abbrev left_by : Event → ℕ → Option Response × Bool
   left_by x n = configuration
       (cond (has_heard v.lines.atn x) (role_heard (meaning_of n) v.party.role) v.party.role)
 
   -- what follows on a turn, and that it speaks of the same byte
   abbrev Goes : After → Event → Type 0
   Goes after.Settle x = x ≡ x
-  Goes (after.Pass j) x = (v.talker ≡ At j) × (x ≡ ev.Ended)
-  Goes after.Attend x = ⊥
-  Goes after.Clear x = ⊥
-  Goes after.Poll x = ⊥
+  Goes (after.Pass j) x = (v.talker ≡ Some j) × (x ≡ ev.Ended)
+  Goes y x = ⊥
 
   pub record Turned (e : Effect) : Type 0 where
     pub goes : Goes e.after e.said.event
@@ -196,18 +177,17 @@ module _ (v : View) where
 
   put_turned : (k : Kind) (x : ℕ) (e : Bool) → Turned (put k x e v)
   put_turned Command x e = left_as refl refl
-  put_turned Data x e = left_as refl refl
-  put_turned Status x e = left_as refl refl
+  put_turned k x e = left_as refl refl
 
-  ready_turned : (o : Slot) (k : Kind) → Turned (ready o k v)
-  ready_turned Empty k = left_as refl refl
-  ready_turned (Full x e) k = cond-elim Turned v.lines.nrfd (λ _. left_as refl refl)
-      (λ _. cond-elim Turned v.lines.ndac (λ _. put_turned k x e) (λ _. left_as refl refl))
+  ready_turned : (o : Option Byte) (k : Kind) → Turned (ready o k v)
+  ready_turned None k = left_as refl refl
+  ready_turned (Some y) k = cond-elim Turned v.lines.nrfd (λ _. left_as refl refl)
+      (λ _. cond-elim Turned v.lines.ndac (λ _. put_turned k y.value y.end) (λ _. left_as refl refl))
 
-  passes : (x : Bool) (f : Found) → v.talker ≡ f → Goes (pass_to x f) ev.Ended
-  passes x Nowhere h = refl
-  passes true (At j) h = (h, refl)
-  passes false (At j) h = refl
+  passes : (x : Bool) (f : Option Place) → v.talker ≡ f → Goes (pass_to x f) ev.Ended
+  passes x None h = refl
+  passes true (Some j) h = (h, refl)
+  passes false (Some j) h = refl
 
   -- what the byte x leaves, if it is heard or not
   heard_or_not : (x : ℕ) {c d : Bool} → c ≡ d
@@ -216,45 +196,44 @@ module _ (v : View) where
   heard_or_not x q = ap
       (λ (y : Bool). configuration (cond y (role_heard (meaning_of x) v.party.role) v.party.role)) q
 
-  ended_turned : (st : Standing) → (stands st ≡ true → is_command st ≡ v.lines.atn) → Turned (ended st v)
-  ended_turned Nothing kind = left_as refl refl
-  ended_turned (Byte s k x e) kind = go (of_command k) (kind refl)
+  ended_turned : (st : Option Standing) → (stands st ≡ true → is_command st ≡ v.lines.atn) → Turned (ended st v)
+  ended_turned None kind = left_as refl refl
+  ended_turned (Some st) kind = go (of_command st.kind) (kind refl)
     where
       go : (c : Bool) → c ≡ v.lines.atn → Turned (record {
-        said = say ev.Ended x e 0;
-        after = cond c (pass_to (passes_control (meaning_of x)) v.talker) after.Settle;
-        party = with_source Sgns (cond c (party_heard x v.party) v.party);
-        standing = Nothing;
+        said = say ev.Ended st.value st.end 0;
+        after = cond c (pass_to (passes_control (meaning_of st.value)) v.talker) after.Settle;
+        party = with_source Sgns (cond c (party_heard st.value v.party) v.party);
+        standing = None;
       })
-      go true q = left_as (passes (passes_control (meaning_of x)) v.talker refl) (heard_or_not x q)
-      go false q = left_as refl (heard_or_not x q)
+      go true q = left_as (passes (passes_control (meaning_of st.value)) v.talker refl) (heard_or_not st.value q)
+      go false q = left_as refl (heard_or_not st.value q)
 
-  takes_turned : (st : Standing) → Turned (takes st v)
-  takes_turned Nothing = left_as refl refl
-  takes_turned (Byte s k x e) = cond-elim Turned v.lines.atn
-      (λ on. left_as refl (heard_or_not x {c = true} (sym (taken on))))
-      (λ off. left_as refl (heard_or_not x {c = false} (sym off)))
+  takes_turned : (st : Option Standing) → Turned (takes st v)
+  takes_turned None = left_as refl refl
+  takes_turned (Some st) = cond-elim Turned v.lines.atn
+      (λ on. left_as refl (heard_or_not st.value {c = true} (sym (taken on))))
+      (λ off. left_as refl (heard_or_not st.value {c = false} (sym off)))
     where
-      taken : v.lines.atn ≡ true → let y = hear_event (meaning_of x) v.party.role.listen in
+      taken : v.lines.atn ≡ true → let y = hear_event (meaning_of st.value) v.party.role.listen in
           has_heard v.lines.atn y ≡ true
       taken on = hear_events (λ (y : Event). has_heard v.lines.atn y ≡ true) on on on
-          (meaning_of x) v.party.role.listen
+          (meaning_of st.value) v.party.role.listen
 
-  source_turned : (stands v.standing ≡ true → is_command v.standing ≡ v.lines.atn) → (s : Source) (o : Slot)
+  source_turned : (stands v.standing ≡ true → is_command v.standing ≡ v.lines.atn) → (s : Source) (o : Option Byte)
       (k : Kind) → Turned (source_in s o k v)
   source_turned kind Sids o k = left_as refl refl
-  source_turned kind Sgns o k = cond-elim Turned (is_full o) (λ _. left_as refl refl) (λ _. left_as refl refl)
+  source_turned kind Sgns o k = cond-elim Turned (is_some o) (λ _. left_as refl refl) (λ _. left_as refl refl)
   source_turned kind Sdys o k = ready_turned o k
   source_turned kind Strs o k = cond-elim Turned v.lines.ndac (λ _. left_as refl refl)
       (λ _. ended_turned v.standing kind)
 
   acceptor_turned : (a : Acceptor) → Turned (acceptor_in a v)
-  acceptor_turned Aids = left_as refl refl
-  acceptor_turned Anrs = cond-elim Turned (v.lines.atn || not (is_full v.party.input)) (λ _. left_as refl refl)
+  acceptor_turned Anrs = cond-elim Turned (v.lines.atn || not (is_some v.party.input)) (λ _. left_as refl refl)
       (λ _. left_as refl refl)
   acceptor_turned Acrs = cond-elim Turned v.lines.dav (λ _. takes_turned v.standing) (λ _. left_as refl refl)
-  acceptor_turned Acds = left_as refl refl
   acceptor_turned Awns = cond-elim Turned v.lines.dav (λ _. left_as refl refl) (λ _. left_as refl refl)
+  acceptor_turned a = left_as refl refl
 
   turned : (stands v.standing ≡ true → is_command v.standing ≡ v.lines.atn) → Turned (step v)
   turned kind = let t = v.lines.atn in let p = v.party in
@@ -263,7 +242,7 @@ module _ (v : View) where
       (λ _. acceptor_turned p.acceptor)
 
 -- A store to the place of an accepted call is seen.
-fits : (b : Bus) → LedTo b → (p : Place) (a : Act) → is_accepted (m.refusal (lines b) b (call_of.Of p a)) ≡ true
+fits : (b : Bus) → LedTo b → (p : Place) (a : Act) → is_accepted (m.verdict (lines b) b (call_of.Of p a)) ≡ true
     → p.0 < length b.parties
 fits b led p a ok =
     let I = led_inv b led in
@@ -277,7 +256,7 @@ module _ (b : Bus) (p : Place) (e : Effect) (l : p.0 < length b.parties) where
   v = m.view_at p (lines b) b
 
   -- who gets control is another party
-  apart : (k : Place) → v.talker ≡ At k → p.0 ≡ k.0 → ⊥
+  apart : (k : Place) → v.talker ≡ Some k → p.0 ≡ k.0 → ⊥
   apart k h q =
       let r = first_found 0 b.count talks (set b.parties p.0 idle) k h in
       let d : p.0 ≡ r.0 = q ∙ omega (arith, r.1.0) in
@@ -293,22 +272,18 @@ module _ (b : Bus) (p : Place) (e : Effect) (l : p.0 < length b.parties) where
       attend_conf b p.0 e (set (left b p.0 e) k.0 (next b p.0 e k)) p.0
       ∙ ap conf (get_or-set_other (left b p.0 e) k.0 p.0 (next b p.0 e k) idle (apart k g.0)
       ∙ get_or-set_same b.parties p.0 (change_control Idle e.party) idle l)
-  own after.Attend t g = absurd g
-  own after.Clear t g = absurd g
-  own after.Poll t g = absurd g
+  own x t g = absurd g
 
   spoken : (x : After) (t : Bool) → Goes v x e.said.event → let a = followed x t b p.0 e in
       left_by v e.said.event e.said.byte ≡ left_by v a.event a.byte
   spoken after.Settle t g = refl
   spoken (after.Pass k) t g = ap (λ (x : Event). left_by v x e.said.byte) g.1
-  spoken after.Attend t g = absurd g
-  spoken after.Clear t g = absurd g
-  spoken after.Poll t g = absurd g
+  spoken x t g = absurd g
 
 pub configured_by_hearing : ConfiguredByHearing
 configured_by_hearing b led p = cond-elim
     (λ (a : Answer). conf (here a.bus p.0) ≡ left_by v a.event a.byte)
-    (is_accepted (m.refusal (lines b) b (call_of.Of p act_of.Step)))
+    (is_accepted (m.verdict (lines b) b (call_of.Of p act_of.Step)))
     (λ ok. let l = fits b led p act_of.Step ok in
     own b p e l e.after t T.goes ∙ T.leaves ∙ spoken b p e l e.after t T.goes) (λ _. refl)
   where
@@ -326,11 +301,11 @@ configured_by_hearing b led p = cond-elim
 
 pub reset_unconfigures : ResetUnconfigures
 reset_unconfigures b led j = cond-elim
-    (λ (a : Answer). a.refusal ≡ ruling.Accepted → conf (here a.bus j) ≡ (Unset, false))
-    (is_accepted (m.refusal (lines b) b c))
+    (λ (a : Answer). a.verdict ≡ Ok tt → conf (here a.bus j) ≡ (None, false))
+    (is_accepted (m.verdict (lines b) b c))
     (λ ok _. cond-elim
     (λ (o : Outcome). conf (here (followed o.after (lines b).atn b j (with_standing b.standing o)).bus j)
-    ≡ (Unset, false)) (is_active (here b j))
+    ≡ (None, false)) (is_active (here b j))
     (λ _. attend_conf b j e (set b.parties j (wiped (here b j))) j ∙ ap conf (there ok (wiped (here b j))))
     (λ _. settle_conf b j e (lines b).atn (set b.parties j aside) j ∙ ap conf (there ok aside)))
     (λ bad h. no (cc))
@@ -344,5 +319,5 @@ reset_unconfigures b led j = cond-elim
     c : Call
     c = call_of.Of (place j) act_of.Reset
 
-    there : is_accepted (m.refusal (lines b) b c) ≡ true → (q : Party) → at (set b.parties j q) j ≡ q
+    there : is_accepted (m.verdict (lines b) b c) ≡ true → (q : Party) → at (set b.parties j q) j ≡ q
     there ok q = get_or-set_same b.parties j q idle (fits b led (place j) act_of.Reset ok)

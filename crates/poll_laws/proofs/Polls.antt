@@ -6,10 +6,10 @@ use mathlib.Core.List.{List, [], ◌∷◌}
 use Prim.Native.Nat.{ℕ, ◌+◌, ◌/◌, ◌%◌, ◌^◌, ◌≤◌, ◌<◌}
 use native.Mathlib.Omega.{arith}
 use native.Mathlib.Nat.{zero-add}
+use Rattle.std.specs.Prelude.{Option, Some, None, Ok}
 use lib.Dec.{ltb, eqb}
 use borrow.Author.Tests.{ltb-true, ltb-false, lt-ltb, eqb-true, eq-eqb}
 use Rattle.role.specs.declared.Response.{Response}
-use Rattle.role.specs.declared.Response.TheVariants.{Unset, Set}
 use Rattle.role.specs.Roles.{agrees, answers_on}
 use Rattle.role.proofs.Logic.{no, test, cond-elim}
 use Rattle.party.specs.Parts.{one}
@@ -24,12 +24,11 @@ use Rattle.effect.specs.Effects.{say}
 use Rattle.refusals.specs.Refusals.{is_inside, of_party, active_refusal}
 use Rattle.bus.specs.declared.Bus.{Bus}
 use Rattle.bus.specs.declared.Answer.{Answer}
-use Rattle.bus.specs.Types.{Place, Standing, Nothing, Byte, Refusal, Call}
-use Rattle.bus.specs.Types.ruling
+use Rattle.bus.specs.Types.{Place, Standing, Verdict, Call}
 use Rattle.bus.specs.Types.ev
 use Rattle.bus.specs.Types.call_of
 use Rattle.bus.specs.Types.act_of
-use Rattle.bus.specs.Record.{here, lines, refuse}
+use Rattle.bus.specs.Record.{here, lines, silent as unmoved}
 use Rattle.bus.specs.Settling.{answered}
 use Rattle.bus.specs.Machine as m
 use Rattle.bus.specs.Delivery.{Moment, history, tally, is_put, is_end, is_host_put, wrote}
@@ -46,25 +45,27 @@ abbrev told : Bus → Answer
 told b = answered false (say ev.Lines (poll_byte b.count b.parties) false 0) b
 
 answer_of_lem : (b : Bus) → Inv b → (p : Place)
-    → m.call b (poll_by p) ≡ m.judged (m.refusal (lines b) b (poll_by p)) b (told b)
-answer_of_lem b I p = ap (m.judged (m.refusal (lines b) b (poll_by p)) b)
+    → m.call b (poll_by p) ≡ m.judged (m.verdict (lines b) b (poll_by p)) b (told b)
+answer_of_lem b I p = ap (m.judged (m.verdict (lines b) b (poll_by p)) b)
     (still b I p.0 (say ev.Lines (poll_byte b.count b.parties) false 0))
 
 leaves : (b : Bus) → Inv b → (p : Place) → (m.call b (poll_by p)).bus ≡ b
 leaves b I p = rw (answer_of_lem b I p)
-    (cond-elim (λ (a : Answer). a.bus ≡ b) (is_accepted (m.refusal (lines b) b (poll_by p))) (λ _. refl) (λ _. refl))
+    (cond-elim (λ (a : Answer). a.bus ≡ b) (is_accepted (m.verdict (lines b) b (poll_by p))) (λ _. refl) (λ _. refl))
 
 pub poll_leaves : PollLeaves
 poll_leaves b led p = leaves b (led_inv b led) p
 
 -- What stands while a party is active is its own command.
-own_command : (b : Bus) → Inv b → (i : ℕ) → is_active (here b i) ≡ true → (st : Standing) → b.standing ≡ st
+own_command : (b : Bus) → Inv b → (i : ℕ) → is_active (here b i) ≡ true → (st : Option Standing) → b.standing ≡ st
     → sends_command i st ≡ stands st
-own_command b I i a Nothing e = refl
-own_command b I i a (Byte s k v x) e =
-    let command : of_command k ≡ true = sym (ap (stands_of of_command) e) ∙ I.pre.kind (rw e) ∙ I.pre.atn_if i a in
-    let same = one_source_lem b I i s.0 (source_of_active (atn_of b) (here b i) a) (sender_is_source b I s k v x e) in
-    rw (command, eq-eqb i s.0 same) refl
+own_command b I i a None e = refl
+own_command b I i a (Some st) e =
+    let command : of_command st.kind ≡ true = sym (ap (stands_of of_command) e) ∙ I.pre.kind (rw e)
+    ∙ I.pre.atn_if i a in
+    let same = one_source_lem b I i st.sender.0 (source_of_active (atn_of b) (here b i) a)
+    (sender_is_source b I st.sender st.kind st.value st.end e) in
+    rw (command, eq-eqb i st.sender.0 same) refl
 
 inside_count : (i n : ℕ) → n ≤ 15 → is_inside n i ≡ ltb i n
 inside_count i n l = test (ltb i n)
@@ -75,8 +76,8 @@ inside_count i n l = test (ltb i n)
     either true = refl
     either false = refl
 
-ruled : (x y z : Bool) (b : Bus) (a : Answer) → a.refusal ≡ ruling.Accepted
-    → (m.judged (of_party x (active_refusal y z)) b a).refusal ≡ of_party x (active_refusal y z)
+ruled : (x y z : Bool) (b : Bus) (a : Answer) → a.verdict ≡ Ok tt
+    → (m.judged (of_party x (active_refusal y z)) b a).verdict ≡ of_party x (active_refusal y z)
 ruled false y z b a e = refl
 ruled true false z b a e = refl
 ruled true true true b a e = refl
@@ -84,7 +85,7 @@ ruled true true false b a e = e
 
 pub refused_as_said : RefusedAsSaid
 refused_as_said b led p =
-    ap (λ (a : Answer). a.refusal) (answer_of_lem b I p)
+    ap (λ (a : Answer). a.verdict) (answer_of_lem b I p)
     ∙ ruled (is_inside b.count i) (is_active (here b i)) (sends_command i b.standing) b (told b) refl
     ∙ rw (inside_count i b.count I.small) (go (is_active (here b i)) refl)
   where
@@ -101,18 +102,18 @@ refused_as_said b led p =
     go false h = refl
 
 -- A status that agrees is the sense.
-agreed : (k : ℕ) (x : Bool) (r : Response) → answers_on k x r ≡ true → r ≡ Set x k
-agreed k x Unset e = no (cc)
-agreed k x (Set sense line) e = go (eqb k line) refl x sense e
+agreed : (k : ℕ) (x : Bool) (r : Option Response) → answers_on k x r ≡ true → r ≡ Some (record { sense = x; line = k })
+agreed k x None e = no (cc)
+agreed k x (Some r) e = go (eqb k r.line) refl x r.sense e
   where
-    go : (y : Bool) → eqb k line ≡ y → (x sense : Bool) → (y && agrees x sense) ≡ true → Set sense line ≡ Set x k
-    go true h true true f = rw (eqb-true k line h) refl
-    go true h true false f = no (cc)
-    go true h false true f = no (cc)
-    go true h false false f = rw (eqb-true k line h) refl
-    go false h x sense f = no (cc)
+    go : (y : Bool) → eqb k r.line ≡ y → (x sense : Bool) → (y && agrees x sense) ≡ true
+        → ◌≡◌ {A = Option Response} (Some (record { sense = sense; line = r.line }))
+        (Some (record { sense = x; line = k }))
+    go true h true true f = rw (eqb-true k r.line h) refl
+    go true h false false f = rw (eqb-true k r.line h) refl
+    go y h x sense f = no (cc)
 
-agreeing : (k : ℕ) (x : Bool) → answers_on k x (Set x k) ≡ true
+agreeing : (k : ℕ) (x : Bool) → answers_on k x (Some (record { sense = x; line = k })) ≡ true
 agreeing k true = rw (eq-eqb k k refl) refl
 agreeing k false = rw (eq-eqb k k refl) refl
 
@@ -151,38 +152,19 @@ lines_answered b led p ok = go (is_accepted r) refl
     I : Inv b
     I = led_inv b led
 
-    r : Refusal
-    r = m.refusal (lines b) b (poll_by p)
+    r : Verdict
+    r = m.verdict (lines b) b (poll_by p)
 
     go : (x : Bool) → is_accepted r ≡ x → Polled b (m.call b (poll_by p))
     go true e = subst (Polled b) (sym (answer_of_lem b I p ∙ rw e refl)) (polled b I)
     go false e =
-        let q : m.call b (poll_by p) ≡ refuse r b = answer_of_lem b I p ∙ rw e refl in
-        let z : r ≡ ruling.Accepted = sym (ap (λ (a : Answer). a.refusal) q) ∙ ok in
+        let q : m.call b (poll_by p) ≡ unmoved r b = answer_of_lem b I p ∙ rw e refl in
+        let z : r ≡ Ok tt = sym (ap (λ (a : Answer). a.verdict) q) ∙ ok in
         let y = ap is_accepted z in no (cc)
 
 is_poll_lem : (c : Call) → is_poll c ≡ true → (p : Place) × (c ≡ poll_by p)
-is_poll_lem (call_of.Of p act_of.Step) e = no (cc)
-is_poll_lem (call_of.Of p (act_of.Write v x)) e = no (cc)
-is_poll_lem (call_of.Of p act_of.Read) e = no (cc)
-is_poll_lem (call_of.Of p (act_of.PollRegister v)) e = no (cc)
-is_poll_lem (call_of.Of p (act_of.ListenOnly on)) e = no (cc)
-is_poll_lem (call_of.Of p (act_of.TalkOnly on)) e = no (cc)
-is_poll_lem (call_of.Of p act_of.TakeControl) e = no (cc)
-is_poll_lem (call_of.Of p act_of.GoToStandby) e = no (cc)
-is_poll_lem (call_of.Of p act_of.InterfaceClear) e = no (cc)
-is_poll_lem (call_of.Of p act_of.Reset) e = no (cc)
-is_poll_lem (call_of.Of p act_of.Drop) e = no (cc)
-is_poll_lem (call_of.Of p (act_of.SecondRequest on)) e = no (cc)
-is_poll_lem (call_of.Of p (act_of.DataOut v)) e = no (cc)
-is_poll_lem (call_of.Of p act_of.MarkEnd) e = no (cc)
-is_poll_lem (call_of.Of p act_of.BusStatus) e = no (cc)
-is_poll_lem (call_of.Of p act_of.DoNothing) e = no (cc)
-is_poll_lem (call_of.Of p act_of.NoRegister) e = no (cc)
-is_poll_lem (call_of.Of p (act_of.OwnStatus on)) e = no (cc)
 is_poll_lem (call_of.Of p act_of.ParallelPoll) e = (p, refl)
-is_poll_lem call_of.Lines e = no (cc)
-is_poll_lem call_of.Drivers e = no (cc)
+is_poll_lem c e = no (cc)
 
 -- a poll leaves the bus, whichever call of a list it is
 poll_bus : (b : Bus) → Inv b → (c : Call) → is_poll c ≡ true → (m.call b c).bus ≡ b
@@ -233,10 +215,10 @@ module _ (f : Moment → ℕ)
       go false h s t = ap (λ (n : ℕ). f (record { before = b; call = c; answer = m.call b c }) + n) t
 
 -- what is 0 in both answers that a poll can have
-silent : (f : Answer → ℕ) → ((b : Bus) → f (told b) ≡ 0) → ((r : Refusal) (b : Bus) → f (refuse r b) ≡ 0)
+silent : (f : Answer → ℕ) → ((b : Bus) → f (told b) ≡ 0) → ((r : Verdict) (b : Bus) → f (unmoved r b) ≡ 0)
     → (b : Bus) → Inv b → (p : Place) → f (m.call b (poll_by p)) ≡ 0
 silent f t n b I p = ap f (answer_of_lem b I p) ∙ cond-elim (λ (a : Answer). f a ≡ 0)
-    (is_accepted (m.refusal (lines b) b (poll_by p))) (λ _. t b) (λ _. n (m.refusal (lines b) b (poll_by p)) b)
+    (is_accepted (m.verdict (lines b) b (poll_by p))) (λ _. t b) (λ _. n (m.verdict (lines b) b (poll_by p)) b)
 
 pub totals_unchanged : TotalsUnchanged
 totals_unchanged b led cs = let I = led_inv b led in record {
@@ -245,7 +227,7 @@ totals_unchanged b led cs = let I = led_inv b led in record {
   ended = uncounted (λ x. one (is_end x.answer.event))
       (silent (λ a. one (is_end a.event)) (λ b. refl) (λ r b. refl)) b I cs;
   broken = uncounted (λ x. x.answer.broken) (silent (λ a. a.broken) (λ b. refl) (λ r b. refl)) b I cs;
-  written = uncounted (λ x. wrote x.call x.answer.refusal) (λ b I p. refl) b I cs;
+  written = uncounted (λ x. wrote x.call x.answer.verdict) (λ b I p. refl) b I cs;
   host_puts = uncounted (λ x. one (is_host_put x.answer.event))
       (silent (λ a. one (is_host_put a.event)) (λ b. refl) (λ r b. refl)) b I cs;
   dropped = uncounted (λ x. x.answer.dropped) (silent (λ a. a.dropped) (λ b. refl) (λ r b. refl)) b I cs;

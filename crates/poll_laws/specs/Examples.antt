@@ -1,8 +1,7 @@
 -- Proved examples of the parallel poll. crates/bus/specs/Rows.antt has the other words.
 -- Assumes nothing.
-use Rattle.std.specs.Prelude.{ℕ, ◌≡◌, false, List, [], ◌∷◌, ◌++◌, map}
+use Rattle.std.specs.Prelude.{ℕ, ◌≡◌, false, List, [], ◌∷◌, ◌++◌, map, Some}
 use Rattle.message.specs.Meaning.{address, secondary}
-use Rattle.names.specs.declared.Secondary.TheVariants.{Given}
 use Rattle.names.specs.Names.{plain}
 use Rattle.parties.specs.Places.{place}
 use Rattle.bus.specs.Types.{Call}
@@ -101,7 +100,7 @@ one = 1 ∷ []
 
 abbrev extended : List (Call × Report) → Run
 extended calls = run_of
-    (plain (address 4) ∷ record { address = address 2; secondary = Given (secondary 12) } ∷ [])
+    (plain (address 4) ∷ record { address = address 2; secondary = Some (secondary 12) } ∷ [])
     ((clear 0, ok) ∷ calls)
 
 -- A party with a secondary is configured once it listens. 6C is its own secondary: while configuring it sets line 5,

@@ -1,18 +1,16 @@
 -- Who keeps the response and the own status (document 02, Q-8, which is quoted).
 -- Assumes nothing.
-use Rattle.std.specs.Prelude.{ℕ, ◌≡◌, Bool, true, false, cond, ◌&&◌, ◌||◌, List, eqb}
+use Rattle.std.specs.Prelude.{ℕ, ◌≡◌, Bool, true, false, cond, ◌&&◌, ◌||◌, List, eqb, Option, None, Ok}
 use Rattle.message.specs.Meaning.{meaning_of}
 use Rattle.role.specs.declared.Mark.{Mark}
 use Rattle.role.specs.declared.Mark.TheVariants.{Unmarked, TalkPrimary, ListenPrimary, Configuring}
 use Rattle.role.specs.declared.Response.{Response}
-use Rattle.role.specs.declared.Response.TheVariants.{Unset}
 use Rattle.role.specs.declared.Role.{Role}
 use Rattle.role.specs.Roles.{role_heard}
 use Rattle.parties.specs.Places.{place}
 use Rattle.effect.specs.Calls.{act_number, switch_of, is_on}
 use Rattle.bus.specs.declared.Bus.{Bus}
 use Rattle.bus.specs.Types.{Place, Name, Event, Act, Call}
-use Rattle.bus.specs.Types.ruling
 use Rattle.bus.specs.Types.call_of
 use Rattle.bus.specs.Types.act_of
 use Rattle.bus.specs.Record.{here, lines}
@@ -42,10 +40,10 @@ is_configuring TalkPrimary = false
 is_configuring ListenPrimary = false
 is_configuring Configuring = true
 
-abbrev pub configuration : Role → Response × Bool
+abbrev pub configuration : Role → Option Response × Bool
 configuration r = (r.response, is_configuring r.mark)
 
-abbrev pub configuration_at : Bus → ℕ → Response × Bool
+abbrev pub configuration_at : Bus → ℕ → Option Response × Bool
 configuration_at b j = configuration (here b j).role
 
 -- Nothing changes a party's response and configuring but its own turns and its own reset, on any bus: not attention,
@@ -72,4 +70,4 @@ ConfiguredByHearing = (b : Bus) → LedTo b → (p : Place)
 -- "reset removes it and the mark": an accepted reset leaves its party unconfigured, on every bus that is led to.
 abbrev pub ResetUnconfigures : Type 0
 ResetUnconfigures = (b : Bus) → LedTo b → (j : ℕ) → let a = m.call b (call_of.Of (place j) act_of.Reset) in
-    a.refusal ≡ ruling.Accepted → configuration_at a.bus j ≡ (Unset, false)
+    a.verdict ≡ Ok tt → configuration_at a.bus j ≡ (None, false)

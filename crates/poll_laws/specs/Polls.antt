@@ -1,15 +1,14 @@
 -- The parallel poll (document 02, Q-8, which is quoted): when it is refused, which lines are on, and that nobody sees
 -- that it came. On every bus that a start, calls and runs lead to. Lines are counted from 0.
 -- Assumes nothing.
-use Rattle.std.specs.Prelude.{ℕ, ◌/◌, ◌%◌, ◌^◌, ◌<◌, ◌≡◌, Bool, false, cond, List, [], ◌∷◌, ltb, eqb}
-use Rattle.role.specs.declared.Response.TheVariants.{Set}
+use Rattle.std.specs.Prelude.{ℕ, ◌/◌, ◌%◌, ◌^◌, ◌<◌, ◌≡◌, Bool, false, cond, List, [], ◌∷◌, ltb, eqb, Some, Ok, Err}
 use Rattle.party.specs.Parts.{one}
 use Rattle.party.specs.Driving.{is_active}
 use Rattle.effect.specs.Calls.{act_number}
 use Rattle.effect.specs.Stands.{stands}
 use Rattle.bus.specs.declared.Bus.{Bus}
 use Rattle.bus.specs.declared.Answer.{Answer}
-use Rattle.bus.specs.Types.{Place, Call, Refusal}
+use Rattle.bus.specs.Types.{Place, Call, Verdict}
 use Rattle.bus.specs.Types.ruling
 use Rattle.bus.specs.Types.ev
 use Rattle.bus.specs.Types.call_of
@@ -24,17 +23,18 @@ poll_by p = call_of.Of p act_of.ParallelPoll
 
 -- "A poll by the active party with no byte standing answers"; "Refused: 4 for a party not active, then 7 for one with
 -- its command standing", after 1. What stands while a party is active is its own command.
-abbrev pub poll_refusal : Bus → ℕ → Refusal
+abbrev pub poll_refusal : Bus → ℕ → Verdict
 poll_refusal b i = cond (ltb i b.count)
-    (cond (is_active (here b i)) (cond (stands b.standing) ruling.Standing ruling.Accepted) ruling.Role)
-    ruling.NoParty
+    (cond (is_active (here b i)) (cond (stands b.standing) (Err ruling.Standing) (Ok tt)) (Err ruling.Role))
+    (Err ruling.NoParty)
 
 abbrev pub RefusedAsSaid : Type 0
-RefusedAsSaid = (b : Bus) → LedTo b → (p : Place) → (m.call b (poll_by p)).refusal ≡ poll_refusal b p.0
+RefusedAsSaid = (b : Bus) → LedTo b → (p : Place) → (m.call b (poll_by p)).verdict ≡ poll_refusal b p.0
 
 -- "some configured party on it has a status equal to its sense": party i, on line k.
 abbrev pub AnswersOn : Bus → ℕ → ℕ → Type 0
-AnswersOn b k i = (i < b.count) × ((here b i).role.response ≡ Set (here b i).latches.ist k)
+AnswersOn b k i = (i < b.count)
+    × ((here b i).role.response ≡ Some (record { sense = (here b i).latches.ist; line = k }))
 
 -- "answers the eight lines as a byte, line 1 lowest, event lines, END 0: a line is on exactly when some configured
 -- party on it has a status equal to its sense."
@@ -48,7 +48,7 @@ pub record Polled (b : Bus) (a : Answer) : Type 0 where
   pub on : (k i : ℕ) → k < 8 → AnswersOn b k i → a.byte / 2 ^ k % 2 ≡ 1
 
 abbrev pub LinesAnswered : Type 0
-LinesAnswered = (b : Bus) → LedTo b → (p : Place) → (m.call b (poll_by p)).refusal ≡ ruling.Accepted
+LinesAnswered = (b : Bus) → LedTo b → (p : Place) → (m.call b (poll_by p)).verdict ≡ Ok tt
     → Polled b (m.call b (poll_by p))
 
 -- A poll changes nothing, accepted or refused.
@@ -82,8 +82,8 @@ pub record SameTotals (b : Bus) (cs ds : List Call) : Type 0 where
   pub ended : tally (λ x. one (is_end x.answer.event)) (history b cs)
       ≡ tally (λ x. one (is_end x.answer.event)) (history b ds)
   pub broken : tally (λ x. x.answer.broken) (history b cs) ≡ tally (λ x. x.answer.broken) (history b ds)
-  pub written : tally (λ x. wrote x.call x.answer.refusal) (history b cs)
-      ≡ tally (λ x. wrote x.call x.answer.refusal) (history b ds)
+  pub written : tally (λ x. wrote x.call x.answer.verdict) (history b cs)
+      ≡ tally (λ x. wrote x.call x.answer.verdict) (history b ds)
   pub host_puts : tally (λ x. one (is_host_put x.answer.event)) (history b cs)
       ≡ tally (λ x. one (is_host_put x.answer.event)) (history b ds)
   pub dropped : tally (λ x. x.answer.dropped) (history b cs) ≡ tally (λ x. x.answer.dropped) (history b ds)

@@ -5,9 +5,11 @@ use mathlib.Core.Path.{◌≡◌, refl, sym, ap, ◌∙◌}
 use mathlib.Core.Bool.{Bool, true, false, not, cond}
 use mathlib.Core.List.{List, [], ◌∷◌, map}
 use mathlib.Core.Logic.{inl, inr}
+use Rattle.std.specs.Prelude.{Option, Some, None, Ok, Err}
 use lib.ListN.{set}
 use lib.Seq.{set-get_or}
 use Rattle.role.proofs.Logic.{no, test}
+use Rattle.offer.specs.Offer.{byte}
 use Rattle.party.specs.Parts.{one, idle, with_held}
 use Rattle.party.specs.Sending.{is_source}
 use Rattle.party.specs.Settling.{settled}
@@ -19,7 +21,7 @@ use Rattle.host_calls.specs.HostCalls.{marked_end}
 use Rattle.registers.specs.Registers.{auxiliary_of, stands_for}
 use Rattle.bus.specs.declared.Bus.{Bus}
 use Rattle.bus.specs.declared.Answer.{Answer}
-use Rattle.bus.specs.Types.{Place, Party, Full, Standing, Nothing, Byte, Said, Act, Refusal}
+use Rattle.bus.specs.Types.{Place, Party, Standing, Said, Act, Verdict}
 use Rattle.bus.specs.Types.ruling
 use Rattle.bus.specs.Types.ev
 use Rattle.bus.specs.Types.call_of
@@ -45,10 +47,10 @@ module _ (on : Bool) (q : Party) where
   source_alike t (p ∷ ps) (suc i) zero = refl
   source_alike t (p ∷ ps) (suc i) (suc j) = source_alike t ps i j
 
-  deserted_alike : (t : Bool) (ps : List Party) (i : ℕ) (st : Standing)
+  deserted_alike : (t : Bool) (ps : List Party) (i : ℕ) (st : Option Standing)
       → deserted t (set ps i (marked_end on q)) st ≡ deserted t (set ps i q) st
-  deserted_alike t ps i Nothing = refl
-  deserted_alike t ps i (Byte s k v e) = ap not (source_alike t ps i s.0)
+  deserted_alike t ps i None = refl
+  deserted_alike t ps i (Some st) = ap not (source_alike t ps i st.sender.0)
 
   settled_alike : (n : ℕ) (t : Bool) (ps : List Party) (i : ℕ) → let after = each n (settled t) (set ps i q) in
       each n (settled t) (set ps i (marked_end on q)) ≡ set after i (marked_end on (at after i))
@@ -59,22 +61,22 @@ module _ (on : Bool) (q : Party) where
   settled_alike (suc n) t (p ∷ ps) zero = refl
   settled_alike (suc n) t (p ∷ ps) (suc i) = ap (λ (xs : List Party). settled t p ∷ xs) (settled_alike n t ps i)
 
-  marking : (t : Bool) (b : Bus) (i : ℕ) (s : Said) (st : Standing)
+  marking : (t : Bool) (b : Bus) (i : ℕ) (s : Said) (st : Option Standing)
       → settle_bus t b s (set b.parties i (marked_end on q)) st
       ≡ answered_with_end_mark on i (settle_bus t b s (set b.parties i q) st)
   marking t b i s st = rw (deserted_alike t b.parties i st, settled_alike b.count t b.parties i) refl
 
 -- what is accepted is marked, and what is refused is left
-judged_marked : (i : ℕ) (r : Refusal) (b : Bus) (x y : Answer) → x.refusal ≡ ruling.Accepted
+judged_marked : (i : ℕ) (r : Verdict) (b : Bus) (x y : Answer) → x.verdict ≡ Ok tt
     → y ≡ answered_with_end_mark false i x
-    → m.judged r b y ≡ cond (is_accepted (m.judged r b x).refusal) (answered_with_end_mark false i (m.judged r b x))
+    → m.judged r b y ≡ cond (is_accepted (m.judged r b x).verdict) (answered_with_end_mark false i (m.judged r b x))
     (m.judged r b x)
 judged_marked i r b x y a e = test (is_accepted r)
-    (λ h. rw h (e ∙ ap (λ (s : Refusal). cond (is_accepted s) (answered_with_end_mark false i x) x) (sym a)))
+    (λ h. rw h (e ∙ ap (λ (s : Verdict). cond (is_accepted s) (answered_with_end_mark false i x) x) (sym a)))
     (λ h. rw (h, h) refl)
 
 -- the mark as an END that the host gives
-no_switch : (on : Bool) (r : Refusal) → of_switch (one on) r ≡ r
+no_switch : (on : Bool) (r : Verdict) → of_switch (one on) r ≡ r
 no_switch true r = refl
 no_switch false r = refl
 
@@ -84,12 +86,12 @@ on_one false = refl
 
 module _ (b : Bus) (p : Place) where
   data_out_lem : (v : ℕ) → m.call b (call_of.Of p (act_of.DataOut v))
-      ≡ cond (is_accepted (marked_write b p v).refusal) (answered_with_end_mark false p.0 (marked_write b p v))
+      ≡ cond (is_accepted (marked_write b p v).verdict) (answered_with_end_mark false p.0 (marked_write b p v))
       (marked_write b p v)
   data_out_lem v =
       let on = (here b p.0).latches.feoi in
       let view = m.view_at p (lines b) b in
-      let q = with_held (Full v on) (here b p.0) in
+      let q = with_held (Some (byte v on)) (here b p.0) in
       let s = say ev.None 0 false 0 in
       let x = settle_bus (lines b).atn b s (set b.parties p.0 q) b.standing in
       rw (no_switch on (write_refusal view), on_one on)
@@ -97,10 +99,10 @@ module _ (b : Bus) (p : Place) where
       (marking false q (lines b).atn b p.0 s b.standing))
 
   -- NOREG comes of no other act
-  for_register : (a : Act) → (m.call b (call_of.Of p a)).refusal ≡ ruling.NoReg → a ≡ act_of.NoRegister
+  for_register : (a : Act) → (m.call b (call_of.Of p a)).verdict ≡ Err ruling.NoReg → a ≡ act_of.NoRegister
   for_register a e = go (call_met b (call_of.Of p a))
     where
-      go : Met (call_of.Of p a) (m.call b (call_of.Of p a)).refusal → a ≡ act_of.NoRegister
+      go : Met (call_of.Of p a) (m.call b (call_of.Of p a)).verdict → a ≡ act_of.NoRegister
       go (inl h) = let z : false ≡ true = rw e at h in no (cc)
       go (inr h) = let q = h.1.1 in cc
 

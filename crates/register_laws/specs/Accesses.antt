@@ -1,7 +1,7 @@
 -- "Each access equals the host call or calls that it stands for, and a list of accesses keeps delivery and totals."
 -- (document 02, Q-6; what else is quoted is Q-6 too)
 -- Assumes nothing.
-use Rattle.std.specs.Prelude.{ℕ, ◌<◌, ◌%◌, ◌/◌, ◌≡◌, Bool, true, false, cond, ◌&&◌, ◌||◌, List, map, eqb, set}
+use Rattle.std.specs.Prelude.{ℕ, ◌<◌, ◌%◌, ◌/◌, ◌≡◌, Bool, true, false, cond, ◌&&◌, ◌||◌, List, map, eqb, set, Ok, Err}
 use Rattle.party.specs.Parts.{one}
 use Rattle.parties.specs.Places.{place}
 use Rattle.effect.specs.Calls.{is_accepted}
@@ -33,7 +33,7 @@ with_end_mark on i b = record {
 
 abbrev pub answered_with_end_mark : Bool → ℕ → Answer → Answer
 answered_with_end_mark on i a = record {
-  refusal = a.refusal;
+  verdict = a.verdict;
   event = a.event;
   byte = a.byte;
   end = a.end;
@@ -64,7 +64,7 @@ pub record Accesses (b : Bus) (p : Place) : Type 0 where
   pub poll : (v : ℕ) → m.accessed b p (Write 5 v) ≡ m.call b (call_of.Of p (act_of.PollRegister v))
   -- Write 7 is the host's write with END as marked. Accepted it uses the mark up, and refused it leaves it.
   pub out : (v : ℕ) → m.accessed b p (Write 7 v)
-      ≡ cond (is_accepted (marked_write b p v).refusal) (answered_with_end_mark false p.0 (marked_write b p v))
+      ≡ cond (is_accepted (marked_write b p v).verdict) (answered_with_end_mark false p.0 (marked_write b p v))
       (marked_write b p v)
   -- "with the set bit as the switch"
   pub lon : (v : ℕ) → v % 32 ≡ 9 → m.accessed b p (Write 3 v) ≡ m.call b (call_of.Of p (act_of.ListenOnly (v / 128)))
@@ -85,7 +85,7 @@ pub record Accesses (b : Bus) (p : Place) : Type 0 where
   pub feoi : (v : ℕ) → v % 32 ≡ 8 → m.accessed b p (Write 3 v) ≡ accept (with_end_mark true p.0 b)
   -- "11 NOREG for any other offset or auxiliary code": just there.
   pub no_reg : (a : Access) → is_carried a ≡ false → m.accessed b p a ≡ refuse ruling.NoReg b
-  pub no_other : (a : Access) → (m.accessed b p a).refusal ≡ ruling.NoReg → is_carried a ≡ false
+  pub no_other : (a : Access) → (m.accessed b p a).verdict ≡ Err ruling.NoReg → is_carried a ≡ false
 
 -- On every bus that a start, calls and runs lead to.
 abbrev pub EachAccess : Type 0
@@ -99,7 +99,7 @@ NobodyThere = (b : Bus) (p : Place) → is_inside b.count p.0 ≡ false
 -- Any byte may be written to any register: none is refused for its value, on any bus. A code's switch is 0 or 1 by
 -- itself.
 abbrev pub AnyByte : Type 0
-AnyByte = (b : Bus) (p : Place) (o v : ℕ) → v < 256 → (m.accessed b p (Write o v)).refusal ≡ ruling.BadValue → ⊥
+AnyByte = (b : Bus) (p : Place) (o v : ℕ) → v < 256 → (m.accessed b p (Write o v)).verdict ≡ Err ruling.BadValue → ⊥
 
 -- What a rack does for drivers that know the chip alone: a party's turn, or an access.
 pub data Use : Type 0 where
@@ -112,7 +112,7 @@ call_for (access p a) = call_of.Of (place p) (stands_for a)
 
 -- "a list of accesses keeps delivery and totals": demand 3 of every such list.
 abbrev pub AccessesDelivered : Type 0
-AccessesDelivered = (names : List Name) (system : Place) → (build_extended names system).refusal ≡ ruling.Accepted
+AccessesDelivered = (names : List Name) (system : Place) → (build_extended names system).verdict ≡ Ok tt
     → (xs : List Use) → Delivered (build_extended names system).bus (map call_for xs)
 
 -- Its host bytes accepted are the accepted writes through offset 7.

@@ -1,13 +1,13 @@
 -- The mark of feoi: "feoi marks the next byte whose write through offset 7 is accepted; reset removes an unused mark."
 -- (document 02, Q-6). It is told from calls and their answers alone.
 -- Assumes nothing.
-use Rattle.std.specs.Prelude.{ℕ, ◌≡◌, Bool, true, false, cond, ◌||◌, List, eqb}
+use Rattle.std.specs.Prelude.{ℕ, ◌≡◌, Bool, true, false, cond, ◌||◌, List, eqb, Some, Ok}
+use Rattle.offer.specs.Offer.{byte}
 use Rattle.parties.specs.Places.{place}
 use Rattle.effect.specs.Calls.{act_number}
 use Rattle.registers.specs.declared.Access.TheVariants.{Write}
 use Rattle.bus.specs.declared.Bus.{Bus}
-use Rattle.bus.specs.Types.{Name, Full, Act}
-use Rattle.bus.specs.Types.ruling
+use Rattle.bus.specs.Types.{Name, Act}
 use Rattle.bus.specs.Record.{here}
 use Rattle.bus.specs.Machine as m
 use Rattle.bus.specs.Delivery.{Moment, history}
@@ -37,5 +37,5 @@ MarkedAsTold = (names : List Name) (b : Bus) → Start names b → (tie : Bus �
 abbrev pub EndAsMarked : Type 0
 EndAsMarked = (names : List Name) (b : Bus) → Start names b → (tie : Bus → TieOrder) (xs : List Item) (q v : ℕ)
     → let c = led_by tie b xs in let a = m.accessed c (place q) (Write 7 v) in
-    a.refusal ≡ ruling.Accepted
-    → (here a.bus q).held ≡ Full v (end_mark_told q (history b (expanded tie b xs)) false)
+    a.verdict ≡ Ok tt
+    → (here a.bus q).held ≡ Some (byte v (end_mark_told q (history b (expanded tie b xs)) false))

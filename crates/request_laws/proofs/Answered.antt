@@ -26,7 +26,7 @@ use Rattle.runner.proofs.Led.{led_inv}
 use Rattle.request_laws.specs.Requests.{request_at, polled, Poll, StatAt, bit64, AsksAt, Left, NoneBetween, First}
 use Rattle.request_laws.specs.Requests.{Waits, Answered, RequestsAnswered, RequestsAnsweredWithRuns}
 use Rattle.request_laws.proofs.Serving.{Served, call_served}
-use Rattle.request_laws.proofs.Phases.{stat, stat_bit, Phase, asking, begun, first, over, phase}
+use Rattle.request_laws.proofs.Phases.{stat, Phase, asking, begun, first, over, phase}
 
 module _ (b : Bus) (cs : List Call) (p : ℕ)
     (G : (k : ℕ) → k < length cs → Served (bus_at b cs k) (moment b cs k).call (answer_at b cs k))

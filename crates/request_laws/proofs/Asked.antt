@@ -2,13 +2,13 @@
 -- Assumes nothing.
 use mathlib.Core.Path.{◌≡◌, refl, sym}
 use mathlib.Core.Bool.{Bool, true, false, not, cond, ◌||◌}
-use Prim.Native.Nat.{ℕ}
+use Rattle.std.specs.Prelude.{Option, Some, None, is_some}
 use Rattle.message.specs.Meaning.{meaning_of}
 use Rattle.service.specs.declared.Request.{Request}
 use Rattle.service.specs.Service.{status, with_saved, with_rsv2, reported}
 use Rattle.role.proofs.Logic.{no, cond-elim}
 use Rattle.role.proofs.Roles.{hear_events}
-use Rattle.offer.specs.Offer.{is_full, kind_of}
+use Rattle.offer.specs.Offer.{kind_of}
 use Rattle.party.specs.Driving.{is_active}
 use Rattle.party.specs.Sending.{is_source, is_polled, offer, parted}
 use Rattle.effect.specs.Calls.{is_on}
@@ -18,10 +18,8 @@ use Rattle.source_step.specs.SourceStep.{put, ready, ended, source_in}
 use Rattle.acceptor_step.specs.AcceptorStep.{takes as takes-up, acceptor_in}
 use Rattle.host_calls.specs.HostCalls.{read_out}
 use Rattle.accepted.specs.Accepted.{step, effect_of}
-use Rattle.bus.specs.Types.{Place, Party, Source, Sids, Sgns, Sdys, Strs, Acceptor, Aids, Anrs, Acrs, Acds, Awns, Slot}
-use Rattle.bus.specs.Types.{Empty, Full, Kind, Command, Data, Status, Event, Lines, Standing, Nothing, Byte, Call}
-use Rattle.bus.specs.Types.{After, Outcome, Effect, View}
-use Rattle.bus.specs.Types.ev
+use Rattle.bus.specs.Types.{Place, Party, Source, Sids, Sgns, Sdys, Strs, Acceptor, Anrs, Acrs, Awns}
+use Rattle.bus.specs.Types.{Byte, Kind, Status, Event, EachLine, Standing, Call, After, Outcome, Effect, View}
 use Rattle.bus.specs.Types.after
 use Rattle.bus.specs.Types.call_of
 use Rattle.bus.specs.Types.act_of
@@ -33,26 +31,10 @@ is_stat x = elim (deed x) [ puts_host ↦ false | puts_status ↦ true | takes �
 -- the request that a call leaves its party with, before it settles
 abbrev pub asked : Call → Event → Request → Request
 asked (call_of.Of i act_of.Step) x q = cond (is_stat x) (reported q) q
-asked (call_of.Of i (act_of.Write v e)) x q = q
-asked (call_of.Of i act_of.Read) x q = q
 asked (call_of.Of i (act_of.PollRegister v)) x q = with_saved v q
-asked (call_of.Of i (act_of.ListenOnly on)) x q = q
-asked (call_of.Of i (act_of.TalkOnly on)) x q = q
-asked (call_of.Of i act_of.TakeControl) x q = q
-asked (call_of.Of i act_of.GoToStandby) x q = q
-asked (call_of.Of i act_of.InterfaceClear) x q = q
 asked (call_of.Of i act_of.Reset) x q = with_rsv2 false q
-asked (call_of.Of i act_of.Drop) x q = q
 asked (call_of.Of i (act_of.SecondRequest on)) x q = with_rsv2 (is_on on) q
-asked (call_of.Of i (act_of.DataOut v)) x q = q
-asked (call_of.Of i act_of.MarkEnd) x q = q
-asked (call_of.Of i act_of.BusStatus) x q = q
-asked (call_of.Of i act_of.DoNothing) x q = q
-asked (call_of.Of i act_of.NoRegister) x q = q
-asked (call_of.Of i (act_of.OwnStatus on)) x q = q
-asked (call_of.Of i act_of.ParallelPoll) x q = q
-asked call_of.Lines x q = q
-asked call_of.Drivers x q = q
+asked c x q = q
 
 -- What follows finds ATN as the call did where no attention follows, and control goes on from a party whose request is
 -- as it was.
@@ -66,11 +48,10 @@ Fair after.Poll p q = is_active q ≡ is_active p
 fair : (x : After) (p q : Party) → is_active q ≡ is_active p → q.request ≡ p.request → Fair x p q
 fair after.Settle p q a r = a
 fair (after.Pass j) p q a r = r
-fair after.Attend p q a r = refl
-fair after.Clear p q a r = refl
 fair after.Poll p q a r = a
+fair x p q a r = refl
 
-module _ (l : Lines) (p : Party) where
+module _ (l : EachLine Bool) (p : Party) where
   -- a step that puts a status byte
   pub record Reports (e : Effect) : Type 0 where
     pub polled : is_polled l.atn p ≡ true
@@ -99,90 +80,71 @@ of_polled true y e = no (cc)
 of_polled false true e = refl
 of_polled false false e = no (cc)
 
-of_status_lem : (p : Party) (y : Bool) (v : ℕ) (e : Bool) → y ≡ true → offer y p ≡ Full v e → v ≡ status p.request
-of_status_lem p true v e h o = cc
-of_status_lem p false v e h o = no (cc)
+of_status_lem : (p : Party) (y : Bool) (z : Byte) → y ≡ true → offer y p ≡ Some z → z.value ≡ status p.request
+of_status_lem p true z h o = cc
+of_status_lem p false z h o = no (cc)
 
 module _ (v : View) where
   abbrev Turned : Effect → Type 0
   Turned = Turn v.lines v.party
 
-  put_turn : (k : Kind) (x : ℕ) (e : Bool) → let p = v.party in let y = is_polled v.lines.atn p in kind_of (is_active
-      p) y ≡ k → offer y p ≡ Full x e → Turned (put k x e v)
-  put_turn Command x e ek eo = silent refl refl refl
-  put_turn Data x e ek eo = silent refl refl refl
-  put_turn Status x e ek eo = let p = v.party in let y = is_polled v.lines.atn p in
+  put_turn : (k : Kind) (z : Byte) → let p = v.party in let y = is_polled v.lines.atn p in kind_of (is_active p) y ≡ k
+      → offer y p ≡ Some z → Turned (put k z.value z.end v)
+  put_turn Status z ek eo = let p = v.party in let y = is_polled v.lines.atn p in
       let h = of_polled (is_active p) y ek in
-      reports refl (record { polled = h; byte = of_status_lem p y x e h eo; follows = refl; party = refl })
+      reports refl (record { polled = h; byte = of_status_lem p y z h eo; follows = refl; party = refl })
+  put_turn k z ek eo = silent refl refl refl
 
-  ready_turn : (o : Slot) → let p = v.party in let y = is_polled v.lines.atn p in offer y p ≡ o
+  ready_turn : (o : Option Byte) → let p = v.party in let y = is_polled v.lines.atn p in offer y p ≡ o
       → Turned (ready o (kind_of (is_active p) y) v)
-  ready_turn Empty eo = silent refl refl refl
-  ready_turn (Full x e) eo = cond-elim Turned v.lines.nrfd (λ _. silent refl refl refl)
+  ready_turn None eo = silent refl refl refl
+  ready_turn (Some y) eo = cond-elim Turned v.lines.nrfd (λ _. silent refl refl refl)
       (λ _. cond-elim Turned v.lines.ndac
-      (λ _. put_turn (kind_of (is_active v.party) (is_polled v.lines.atn v.party)) x e refl eo)
+      (λ _. put_turn (kind_of (is_active v.party) (is_polled v.lines.atn v.party)) y refl eo)
       (λ _. silent refl refl refl))
 
-  ended_turn : (st : Standing) → Turned (ended st v)
-  ended_turn Nothing = silent refl refl refl
-  ended_turn (Byte s k x e) = let p = v.party in
-      silent refl (cond-elim (λ (q : Party). q.request ≡ p.request) (of_command k) (λ _. refl) (λ _. refl))
-      (cond-elim (λ (q : Party). is_active q ≡ is_active p) (of_command k) (λ _. refl) (λ _. refl))
+  ended_turn : (st : Option Standing) → Turned (ended st v)
+  ended_turn None = silent refl refl refl
+  ended_turn (Some st) = let p = v.party in
+      silent refl (cond-elim (λ (q : Party). q.request ≡ p.request) (of_command st.kind) (λ _. refl) (λ _. refl))
+      (cond-elim (λ (q : Party). is_active q ≡ is_active p) (of_command st.kind) (λ _. refl) (λ _. refl))
 
   source_turn : (s : Source) → let p = v.party in let y = is_polled v.lines.atn p in Turned (source_in s (offer y p)
       (kind_of (is_active p) y) v)
   source_turn Sids = silent refl refl refl
-  source_turn Sgns = cond-elim Turned (is_full (offer (is_polled v.lines.atn v.party) v.party))
+  source_turn Sgns = cond-elim Turned (is_some (offer (is_polled v.lines.atn v.party) v.party))
       (λ _. silent refl refl refl) (λ _. silent refl refl refl)
   source_turn Sdys = ready_turn (offer (is_polled v.lines.atn v.party) v.party) refl
   source_turn Strs = cond-elim Turned v.lines.ndac (λ _. silent refl refl refl) (λ _. ended_turn v.standing)
 
-  takes_turn : (st : Standing) → Turned (takes-up st v)
-  takes_turn Nothing = silent refl refl refl
-  takes_turn (Byte s k x e) = cond-elim Turned v.lines.atn
-      (λ _. silent (hear_events (λ (y : Event). is_stat y ≡ false) refl refl refl (meaning_of x) v.party.role.listen)
-      refl refl)
+  takes_turn : (st : Option Standing) → Turned (takes-up st v)
+  takes_turn None = silent refl refl refl
+  takes_turn (Some st) = cond-elim Turned v.lines.atn
+      (λ _. silent (hear_events (λ (y : Event). is_stat y ≡ false) refl refl refl (meaning_of st.value)
+      v.party.role.listen) refl refl)
       (λ _. silent refl refl refl)
 
   acceptor_turn : (a : Acceptor) → Turned (acceptor_in a v)
-  acceptor_turn Aids = silent refl refl refl
-  acceptor_turn Anrs = cond-elim Turned (v.lines.atn || not (is_full v.party.input)) (λ _. silent refl refl refl)
+  acceptor_turn Anrs = cond-elim Turned (v.lines.atn || not (is_some v.party.input)) (λ _. silent refl refl refl)
       (λ _. silent refl refl refl)
   acceptor_turn Acrs = cond-elim Turned v.lines.dav (λ _. takes_turn v.standing) (λ _. silent refl refl refl)
-  acceptor_turn Acds = silent refl refl refl
   acceptor_turn Awns = cond-elim Turned v.lines.dav (λ _. silent refl refl refl) (λ _. silent refl refl refl)
+  acceptor_turn a = silent refl refl refl
 
   pub step_turn : Turned (step v)
   step_turn = let p = v.party in cond-elim Turned (is_source v.lines.atn p) (λ _. source_turn p.source) (λ _.
       acceptor_turn p.acceptor)
 
-  read_leaves : (i : Place) (s : Slot) → Leaves v.lines v.party (call_of.Of i act_of.Read) (with_standing
+  read_leaves : (i : Place) (s : Option Byte) → Leaves v.lines v.party (call_of.Of i act_of.Read) (with_standing
       v.standing (read_out s v.party))
-  read_leaves i Empty = record { request = refl; follows = refl }
-  read_leaves i (Full x e) = record { request = refl; follows = refl }
+  read_leaves i None = record { request = refl; follows = refl }
+  read_leaves i (Some y) = record { request = refl; follows = refl }
 
   pub leaves : (c : Call) → Leaves v.lines v.party c (effect_of v c)
   leaves (call_of.Of i act_of.Step) = step_leaves v.lines v.party i (step v) step_turn
-  leaves (call_of.Of i (act_of.Write x e)) = record { request = refl; follows = refl }
   leaves (call_of.Of i act_of.Read) = read_leaves i v.party.input
-  leaves (call_of.Of i (act_of.PollRegister x)) = record { request = refl; follows = refl }
-  leaves (call_of.Of i (act_of.ListenOnly on)) = record { request = refl; follows = refl }
-  leaves (call_of.Of i (act_of.TalkOnly on)) = record { request = refl; follows = refl }
-  leaves (call_of.Of i act_of.TakeControl) = record { request = refl; follows = refl }
-  leaves (call_of.Of i act_of.GoToStandby) = record { request = refl; follows = refl }
-  leaves (call_of.Of i act_of.InterfaceClear) = record { request = refl; follows = refl }
   leaves (call_of.Of i act_of.Reset) = cond-elim
       (λ (o : Outcome). Leaves v.lines v.party (call_of.Of i act_of.Reset) (with_standing v.standing o))
       (is_active v.party) (λ _. record { request = refl; follows = refl })
       (λ h. record { request = refl; follows = sym h })
-  leaves (call_of.Of i act_of.Drop) = record { request = refl; follows = refl }
-  leaves (call_of.Of i (act_of.SecondRequest on)) = record { request = refl; follows = refl }
-  leaves (call_of.Of i (act_of.DataOut x)) = record { request = refl; follows = refl }
-  leaves (call_of.Of i act_of.MarkEnd) = record { request = refl; follows = refl }
-  leaves (call_of.Of i act_of.BusStatus) = record { request = refl; follows = refl }
-  leaves (call_of.Of i act_of.DoNothing) = record { request = refl; follows = refl }
-  leaves (call_of.Of i act_of.NoRegister) = record { request = refl; follows = refl }
-  leaves (call_of.Of i (act_of.OwnStatus on)) = record { request = refl; follows = refl }
-  leaves (call_of.Of i act_of.ParallelPoll) = record { request = refl; follows = refl }
-  leaves call_of.Lines = record { request = refl; follows = refl }
-  leaves call_of.Drivers = record { request = refl; follows = refl }
+  leaves c = record { request = refl; follows = refl }

@@ -6,6 +6,7 @@ use mathlib.Core.List.{List}
 use mathlib.Core.Logic.{◌⊎◌, inl, inr}
 use Prim.Native.Nat.{ℕ, ◌≤◌, ◌<◌}
 use native.Mathlib.Omega.{arith}
+use Rattle.std.specs.Prelude.{Option, Ok}
 use lib.ListN.{length, set, length-set}
 use lib.Seq.{get_or-set_same}
 use lib.Dec.{ltb, eqb}
@@ -18,14 +19,14 @@ use Rattle.party.specs.Parts.{idle}
 use Rattle.party.specs.Driving.{is_active}
 use Rattle.party.specs.Sending.{is_polled}
 use Rattle.party.specs.Settling.{attended, settled, change_control, cleared}
-use Rattle.parties.specs.Places.{place, at, some, each, other_talker}
+use Rattle.parties.specs.Places.{place, at, some, each}
 use Rattle.parties.proofs.Places.{upd, at_set, each_below, length_each, set_part, each_part, some_set, some_each}
 use Rattle.effect.specs.Calls.{is_accepted, place_of}
 use Rattle.refusals.specs.Refusals.{of_switch}
 use Rattle.host_calls.specs.HostCalls.{second_request}
 use Rattle.effect.specs.Effects.{with_standing}
 use Rattle.accepted.specs.Accepted.{effect_of}
-use Rattle.bus.specs.Record.{here, lines, refuse}
+use Rattle.bus.specs.Record.{here, lines, silent as unmoved}
 use Rattle.effect.specs.Stands.{stands}
 use Rattle.bus.specs.Settling.{settle_bus_as, deserted, attend, followed}
 use Rattle.bus.specs.Machine as m
@@ -34,9 +35,8 @@ use Rattle.bus.proofs.Accepting.{known}
 use Rattle.bus.proofs.Seats.{seat}
 use Rattle.bus.specs.declared.Bus.{Bus}
 use Rattle.bus.specs.declared.Answer.{Answer}
-use Rattle.bus.specs.Types.{Party, Idle, Active, Event, Standing, Call, Refusal, Said, After, Effect}
+use Rattle.bus.specs.Types.{Party, Idle, Active, Event, Standing, Call, Verdict, Said, After, Effect}
 use Rattle.bus.specs.Types.ev
-use Rattle.bus.specs.Types.ruling
 use Rattle.bus.specs.Types.after
 use Rattle.bus.specs.Types.call_of
 use Rattle.bus.specs.Types.act_of
@@ -51,7 +51,7 @@ Settles b b' q = (j : ℕ) → j < b.count → (here b' j).request ≡ request_s
 
 module _ (b : Bus) (I : Inv b) where
   -- a bus whose parties settle from ps
-  module _ (t off : Bool) (s : Said) (ps : List Party) (st : Standing) (te : some b.count is_active ps ≡ t)
+  module _ (t off : Bool) (s : Said) (ps : List Party) (st : Option Standing) (te : some b.count is_active ps ≡ t)
       (fits : b.count ≤ length ps) where
     abbrev now : Bus
     now = (settle_bus_as t off b s ps st).bus
@@ -68,7 +68,7 @@ module _ (b : Bus) (I : Inv b) where
   fits : b.count ≤ length b.parties
   fits = let z = I.size in let s = I.small in omega arith
 
-  attends : (s : Said) (ps : List Party) (st : Standing) → length ps ≡ length b.parties → (q : ℕ → Request)
+  attends : (s : Said) (ps : List Party) (st : Option Standing) → length ps ≡ length b.parties → (q : ℕ → Request)
       → ((j : ℕ) → (at ps j).request ≡ q j) → Settles b (attend b s ps st).bus q
   attends s ps st len q h = settles t (stands st) s (each b.count (attended t) ps) st
       (some_each b.count is_active (attended t) ps (λ p. refl)) (rw (length_each, len) fits)
@@ -139,26 +139,7 @@ module _ (b : Bus) (I : Inv b) where
 asked_service : (c : Call) (x : Event) (q : Request) → (asked c x q).service ≡ q.service
 asked_service (call_of.Of i act_of.Step) x q = cond-elim (λ (y : Request). y.service ≡ q.service) (is_stat x)
     (λ _. refl) (λ _. refl)
-asked_service (call_of.Of i (act_of.Write v e)) x q = refl
-asked_service (call_of.Of i act_of.Read) x q = refl
-asked_service (call_of.Of i (act_of.PollRegister v)) x q = refl
-asked_service (call_of.Of i (act_of.ListenOnly on)) x q = refl
-asked_service (call_of.Of i (act_of.TalkOnly on)) x q = refl
-asked_service (call_of.Of i act_of.TakeControl) x q = refl
-asked_service (call_of.Of i act_of.GoToStandby) x q = refl
-asked_service (call_of.Of i act_of.InterfaceClear) x q = refl
-asked_service (call_of.Of i act_of.Reset) x q = refl
-asked_service (call_of.Of i act_of.Drop) x q = refl
-asked_service (call_of.Of i (act_of.SecondRequest on)) x q = refl
-asked_service (call_of.Of i (act_of.DataOut v)) x q = refl
-asked_service (call_of.Of i act_of.MarkEnd) x q = refl
-asked_service (call_of.Of i act_of.BusStatus) x q = refl
-asked_service (call_of.Of i act_of.DoNothing) x q = refl
-asked_service (call_of.Of i act_of.NoRegister) x q = refl
-asked_service (call_of.Of i (act_of.OwnStatus on)) x q = refl
-asked_service (call_of.Of i act_of.ParallelPoll) x q = refl
-asked_service call_of.Lines x q = refl
-asked_service call_of.Drivers x q = refl
+asked_service c x q = refl
 
 -- by call c with event x the bit of party j may change: it is switched, reset, or its status byte is put
 abbrev pub Switches : Call → ℕ → Type 0
@@ -172,45 +153,16 @@ abbrev Turns : Call → Event → ℕ → Type 0
 Turns c x j = Switches c j ⊎ Puts c x j
 
 is_stat_lem : (x : Event) → is_stat x ≡ true → x ≡ ev.Stat
-is_stat_lem ev.None e = no (cc)
-is_stat_lem ev.Moved e = no (cc)
-is_stat_lem ev.Cmd e = no (cc)
-is_stat_lem ev.Data e = no (cc)
 is_stat_lem ev.Stat e = refl
-is_stat_lem ev.Took e = no (cc)
-is_stat_lem ev.Heard e = no (cc)
-is_stat_lem ev.Clear e = no (cc)
-is_stat_lem ev.Trigger e = no (cc)
-is_stat_lem ev.Ended e = no (cc)
-is_stat_lem ev.Passed e = no (cc)
-is_stat_lem ev.Noacc e = no (cc)
-is_stat_lem ev.Read e = no (cc)
-is_stat_lem ev.Lines e = no (cc)
+is_stat_lem x e = no (cc)
 
 asked_bit : (c : Call) (x : Event) (q : Request) → ((asked c x q).rsv2 ≡ q.rsv2) ⊎ Turns c x (place_of c).0
 asked_bit (call_of.Of i act_of.Step) x q = cond-elim
     (λ (y : Request). (y.rsv2 ≡ q.rsv2) ⊎ Turns (call_of.Of i act_of.Step) x i.0) (is_stat x)
     (λ h. inr (inr (refl, is_stat_lem x h))) (λ _. inl refl)
-asked_bit (call_of.Of i (act_of.Write v e)) x q = inl refl
-asked_bit (call_of.Of i act_of.Read) x q = inl refl
-asked_bit (call_of.Of i (act_of.PollRegister v)) x q = inl refl
-asked_bit (call_of.Of i (act_of.ListenOnly on)) x q = inl refl
-asked_bit (call_of.Of i (act_of.TalkOnly on)) x q = inl refl
-asked_bit (call_of.Of i act_of.TakeControl) x q = inl refl
-asked_bit (call_of.Of i act_of.GoToStandby) x q = inl refl
-asked_bit (call_of.Of i act_of.InterfaceClear) x q = inl refl
 asked_bit (call_of.Of i act_of.Reset) x q = inr (inl (inr refl))
-asked_bit (call_of.Of i act_of.Drop) x q = inl refl
 asked_bit (call_of.Of i (act_of.SecondRequest on)) x q = inr (inl (inl (on, refl)))
-asked_bit (call_of.Of i (act_of.DataOut v)) x q = inl refl
-asked_bit (call_of.Of i act_of.MarkEnd) x q = inl refl
-asked_bit (call_of.Of i act_of.BusStatus) x q = inl refl
-asked_bit (call_of.Of i act_of.DoNothing) x q = inl refl
-asked_bit (call_of.Of i act_of.NoRegister) x q = inl refl
-asked_bit (call_of.Of i (act_of.OwnStatus on)) x q = inl refl
-asked_bit (call_of.Of i act_of.ParallelPoll) x q = inl refl
-asked_bit call_of.Lines x q = inl refl
-asked_bit call_of.Drivers x q = inl refl
+asked_bit c x q = inl refl
 
 -- party j puts a status byte
 pub record Stat (b : Bus) (a : Answer) (j : ℕ) : Type 0 where
@@ -228,8 +180,8 @@ pub record Served (b : Bus) (c : Call) (a : Answer) : Type 0 where
       → (here a.bus j).request.service ≡ service_settled (here b j).request.service (asks
       (here a.bus j).request.live (here a.bus j).request.rsv2) (polled_on a.bus j)
   pub bit : (j : ℕ) → j < b.count → ((here a.bus j).request.rsv2 ≡ (here b j).request.rsv2) ⊎
-      (((a.refusal ≡ ruling.Accepted) × Switches c j) ⊎ Puts c a.event j)
-  pub switched : (j : ℕ) → a.refusal ≡ ruling.Accepted → c ≡ call_of.Of (place j) (act_of.SecondRequest 1)
+      (((a.verdict ≡ Ok tt) × Switches c j) ⊎ Puts c a.event j)
+  pub switched : (j : ℕ) → a.verdict ≡ Ok tt → c ≡ call_of.Of (place j) (act_of.SecondRequest 1)
       → (j < b.count) × ((here a.bus j).request.rsv2 ≡ true) × (polled_on a.bus j ≡ polled_on b j)
   pub stat : (j : ℕ) → c ≡ call_of.Of (place j) act_of.Step → a.event ≡ ev.Stat → Stat b a j
 
@@ -237,19 +189,14 @@ pub record Served (b : Bus) (c : Call) (a : Answer) : Type 0 where
 followed_stat : (x : After) (t : Bool) (b : Bus) (i : ℕ) (e : Effect) → (followed x t b i e).event ≡ ev.Stat
     → e.said.event ≡ ev.Stat
 followed_stat after.Settle t b i e h = h
-followed_stat (after.Pass j) t b i e h = no (cc)
 followed_stat after.Attend t b i e h = h
-followed_stat after.Clear t b i e h = no (cc)
-followed_stat after.Poll t b i e h = no (cc)
+followed_stat x t b i e h = no (cc)
 
-accepted_says : (x : After) (t : Bool) (b : Bus) (i : ℕ) (e : Effect) → (followed x t b i e).refusal ≡ ruling.Accepted
+accepted_says : (x : After) (t : Bool) (b : Bus) (i : ℕ) (e : Effect) → (followed x t b i e).verdict ≡ Ok tt
 accepted_says after.Settle t b i e = refl
-accepted_says (after.Pass j) t b i e = refl
-accepted_says after.Attend t b i e = refl
-accepted_says after.Clear t b i e = refl
-accepted_says after.Poll t b i e = refl
+accepted_says x t b i e = refl
 
-module _ (b : Bus) (I : Inv b) (c : Call) (ok : is_accepted (m.refusal (lines b) b c) ≡ true) where
+module _ (b : Bus) (I : Inv b) (c : Call) (ok : is_accepted (m.verdict (lines b) b c) ≡ true) where
   abbrev i : ℕ
   i = (place_of c).0
 
@@ -314,7 +261,7 @@ module _ (b : Bus) (I : Inv b) (c : Call) (ok : is_accepted (m.refusal (lines b)
       ∙ ap (λ (x : Bool). (cond x e.party (here b i)).request.rsv2) (eq-eqb i i refl)
 
 -- a step that puts a status byte
-module _ (b : Bus) (I : Inv b) (j : ℕ) (ok : is_accepted (m.refusal (lines b) b (call_of.Of (place j) act_of.Step)) ≡
+module _ (b : Bus) (I : Inv b) (j : ℕ) (ok : is_accepted (m.verdict (lines b) b (call_of.Of (place j) act_of.Step)) ≡
     true) where
   abbrev it : Effect
   it = effect_of (m.view_at (place j) (lines b) b) (call_of.Of (place j) act_of.Step)
@@ -323,7 +270,7 @@ module _ (b : Bus) (I : Inv b) (j : ℕ) (ok : is_accepted (m.refusal (lines b) 
   answer = m.accepted (lines b) b (call_of.Of (place j) act_of.Step)
 
   inside : j < b.count
-  inside = (known b (place j) ruling.Accepted ok).0
+  inside = (known b (place j) (Ok tt) ok).0
 
   reported_by : it.said.event ≡ ev.Stat → Reports (lines b) (here b j) it
   reported_by h = go (step_turn (m.view_at (place j) (lines b) b))
@@ -349,11 +296,11 @@ module _ (b : Bus) (I : Inv b) (j : ℕ) (ok : is_accepted (m.refusal (lines b) 
       w = reported_by (followed_stat it.after (atn_of b) b j it h)
 
 -- the bit is switched on
-switched_on : (b : Bus) → Inv b → (j : ℕ) → is_accepted (m.refusal (lines b) b
+switched_on : (b : Bus) → Inv b → (j : ℕ) → is_accepted (m.verdict (lines b) b
     (call_of.Of (place j) (act_of.SecondRequest 1))) ≡ true
     → let a = m.accepted (lines b) b (call_of.Of (place j) (act_of.SecondRequest 1)) in
     (j < b.count) × ((here a.bus j).request.rsv2 ≡ true) × (polled_on a.bus j ≡ polled_on b j)
-switched_on b I j ok = let l = (known b (place j) (of_switch 1 ruling.Accepted) ok).0 in (
+switched_on b I j ok = let l = (known b (place j) (of_switch 1 (Ok tt)) ok).0 in (
   l,
   own_bit b I (call_of.Of (place j) (act_of.SecondRequest 1)) ok l,
   follow_polled b I j
@@ -362,39 +309,39 @@ switched_on b I j ok = let l = (known b (place j) (of_switch 1 ruling.Accepted) 
       refl,
 )
 
-accepted_served : (b : Bus) → Inv b → (c : Call) → is_accepted (m.refusal (lines b) b c) ≡ true
+accepted_served : (b : Bus) → Inv b → (c : Call) → is_accepted (m.verdict (lines b) b c) ≡ true
     → Served b c (m.accepted (lines b) b c)
 accepted_served b I c ok = record {
   count = count_kept (e b I c ok).after (atn_of b) b (place_of c).0 (e b I c ok);
   service = next_service b I c ok;
   bit = λ j l. go j (next_bit b I c ok j l);
-  switched = λ j _ h. subst (λ (c : Call). is_accepted (m.refusal (lines b) b c) ≡ true → let a = m.accepted (lines b) b
+  switched = λ j _ h. subst (λ (c : Call). is_accepted (m.verdict (lines b) b c) ≡ true → let a = m.accepted (lines b) b
       c in (j < b.count) × ((here a.bus j).request.rsv2 ≡ true) × (polled_on a.bus j ≡ polled_on b j)) (sym h)
       (switched_on b I j) ok;
-  stat = λ j h. subst (λ (c : Call). is_accepted (m.refusal (lines b) b c) ≡ true
+  stat = λ j h. subst (λ (c : Call). is_accepted (m.verdict (lines b) b c) ≡ true
       → (m.accepted (lines b) b c).event ≡ ev.Stat → Stat b (m.accepted (lines b) b c) j) (sym h) (step_stat b I j) ok;
 }
   where
     told : (j : ℕ) → c ≡ call_of.Of (place j) act_of.Step → (e b I c ok).said.event ≡ ev.Stat
         → (m.accepted (lines b) b c).event ≡ ev.Stat
-    told j h = subst (λ (c : Call). (ok : is_accepted (m.refusal (lines b) b c) ≡ true)
+    told j h = subst (λ (c : Call). (ok : is_accepted (m.verdict (lines b) b c) ≡ true)
         → (e b I c ok).said.event ≡ ev.Stat → (m.accepted (lines b) b c).event ≡ ev.Stat) (sym h) (stat_event b I j) ok
 
     go : (j : ℕ) → ((here (m.accepted (lines b) b c).bus j).request.rsv2 ≡ (here b j).request.rsv2)
         ⊎ Turns c (e b I c ok).said.event j
         → ((here (m.accepted (lines b) b c).bus j).request.rsv2 ≡ (here b j).request.rsv2)
-        ⊎ ((((m.accepted (lines b) b c).refusal ≡ ruling.Accepted) × Switches c j)
+        ⊎ ((((m.accepted (lines b) b c).verdict ≡ Ok tt) × Switches c j)
         ⊎ Puts c (m.accepted (lines b) b c).event j)
     go j (inl h) = inl h
     go j (inr (inl h)) = inr (inl (accepted_says (e b I c ok).after (atn_of b) b (place_of c).0 (e b I c ok), h))
     go j (inr (inr h)) = inr (inr (h.0, told j h.0 h.1))
 
-refused_served : (b : Bus) → Inv b → (c : Call) (r : Refusal) → is_accepted r ≡ false → Served b c (refuse r b)
-refused_served b I c r n = record {
+refused_served : (b : Bus) → Inv b → (c : Call) (v : Verdict) → is_accepted v ≡ false → Served b c (unmoved v b)
+refused_served b I c v n = record {
   count = refl;
   service = λ j l. let h = ap (λ (p : Party). p.request) (I.still j) in
       sym (ap (λ (q : Request). q.service) h)
-      ∙ ap (λ (v : ℕ). service_settled (here b j).request.service (asks v (here b j).request.rsv2)
+      ∙ ap (λ (n : ℕ). service_settled (here b j).request.service (asks n (here b j).request.rsv2)
       (polled_on b j)) (ap (λ (q : Request). q.live) h);
   bit = λ j l. inl refl;
   switched = λ j h. let z = ap is_accepted h in no (cc);
@@ -402,5 +349,5 @@ refused_served b I c r n = record {
 }
 
 pub call_served : (b : Bus) → Inv b → (c : Call) → Served b c (m.call b c)
-call_served b I c = cond-elim (Served b c) (is_accepted (m.refusal (lines b) b c)) (accepted_served b I c)
-    (refused_served b I c (m.refusal (lines b) b c))
+call_served b I c = cond-elim (Served b c) (is_accepted (m.verdict (lines b) b c)) (accepted_served b I c)
+    (refused_served b I c (m.verdict (lines b) b c))

@@ -2,7 +2,7 @@
 -- Calls of a list are counted from 0, as in demand 3. `r` is the call that switches the request on, `k` and `l` are
 -- calls that come later, `s` and `e` the first and the last call of a poll, `p` is the party.
 -- Assumes nothing.
-use Rattle.std.specs.Prelude.{◌≡◌, Bool, true, false, List, ◌⊎◌, ℕ, suc, ◌<◌, ◌≤◌, length}
+use Rattle.std.specs.Prelude.{◌≡◌, Bool, true, false, List, ◌⊎◌, ℕ, suc, ◌<◌, ◌≤◌, length, Ok}
 use Rattle.service.specs.declared.Service.TheVariants.{Nprs, Srqs, Aprs}
 use Rattle.service.specs.declared.Request.{Request}
 use Rattle.service.specs.Service.{rsv}
@@ -10,7 +10,6 @@ use Rattle.party.specs.Sending.{is_polled}
 use Rattle.parties.specs.Places.{place}
 use Rattle.bus.specs.declared.Bus.{Bus}
 use Rattle.bus.specs.Types.{Call}
-use Rattle.bus.specs.Types.ruling
 use Rattle.bus.specs.Types.ev
 use Rattle.bus.specs.Types.call_of
 use Rattle.bus.specs.Types.act_of
@@ -54,13 +53,13 @@ module _ (b : Bus) (cs : List Call) (p : ℕ) where
   pub record AsksAt (r : ℕ) : Type 0 where
     pub there : r < length cs
     pub call : (moment b cs r).call ≡ call_of.Of (place p) (act_of.SecondRequest 1)
-    pub accepted : (answer_at b cs r).refusal ≡ ruling.Accepted
+    pub accepted : (answer_at b cs r).verdict ≡ Ok tt
     pub nprs : (request_at r).service ≡ Nprs
     pub outside : polled r ≡ false
 
   -- Call k switches the bit of party p, on or off, or resets it.
   abbrev pub TouchesAt : ℕ → Type 0
-  TouchesAt k = ((answer_at b cs k).refusal ≡ ruling.Accepted)
+  TouchesAt k = ((answer_at b cs k).verdict ≡ Ok tt)
       × (((on : ℕ) × ((moment b cs k).call ≡ call_of.Of (place p) (act_of.SecondRequest on)))
       ⊎ ((moment b cs k).call ≡ call_of.Of (place p) act_of.Reset))
 

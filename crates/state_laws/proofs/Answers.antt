@@ -6,17 +6,18 @@ use mathlib.Core.List.{List, [], ◌∷◌}
 use mathlib.Core.Logic.{◌⊎◌, inl, inr}
 use Prim.Native.Nat.{ℕ, zero, suc, ◌≤◌}
 use native.Mathlib.Omega.{arith}
+use Rattle.std.specs.Prelude.{Option, Some, None, Ok, Err, is_some}
 use lib.Dec.{eqb, ltb}
 use lib.ListN.{set}
-use Rattle.offer.specs.Offer.{is_full, kind_of}
+use Rattle.offer.specs.Offer.{kind_of}
 use Rattle.role.proofs.Logic.{no, test, cond-elim}
 use Rattle.party.specs.Parts.{one, held_bytes}
 use Rattle.party.specs.Driving.{is_active}
 use Rattle.party.specs.Sending.{is_source, is_polled, offer}
 use Rattle.party.specs.Settling.{cleared, clear_drops}
-use Rattle.parties.specs.Places.{at, total, is_found}
+use Rattle.parties.specs.Places.{at, total}
 use Rattle.parties.proofs.Places.{total_zero}
-use Rattle.effect.specs.Calls.{switch_of, is_accepted, place_of, is_on, refusal_number}
+use Rattle.effect.specs.Calls.{switch_of, is_accepted, place_of, is_on, verdict_number}
 use Rattle.effect.specs.Stands.{stands, sends}
 use Rattle.effect.specs.Effects.{with_standing}
 use Rattle.refusals.specs.Refusals.{of_switch, write_refusal, listen_refusal, talk_refusal, in_standby, own, judge}
@@ -27,9 +28,8 @@ use Rattle.host_calls.specs.HostCalls.{read_out}
 use Rattle.accepted.specs.Accepted.{effect_of}
 use Rattle.bus.specs.declared.Bus.{Bus}
 use Rattle.bus.specs.declared.Answer.{Answer}
-use Rattle.bus.specs.Types.{Place, Party, Source, Sids, Sgns, Sdys, Strs, Acceptor, Aids, Anrs, Acrs, Acds, Awns, Slot}
-use Rattle.bus.specs.Types.{Empty, Full, Kind, Standing, Nothing, Byte, Call, Act, Refusal, After, Outcome, Effect}
-use Rattle.bus.specs.Types.{View}
+use Rattle.bus.specs.Types.{Place, Party, Source, Sids, Sgns, Sdys, Strs, Acceptor, Anrs, Acrs, Awns}
+use Rattle.bus.specs.Types.{Byte, Kind, Standing, Call, Act, Verdict, After, Outcome, Effect, View}
 use Rattle.bus.specs.Types.ruling
 use Rattle.bus.specs.Types.after
 use Rattle.bus.specs.Types.call_of
@@ -47,7 +47,7 @@ at_most_one true = omega arith
 at_most_one false = omega arith
 
 held_one : (p : Party) → held_bytes p ≤ 1
-held_one p = at_most_one (is_full p.held)
+held_one p = at_most_one (is_some p.held)
 
 -- A call's own effect drops one byte at the most: that of its party.
 module _ (v : View) where
@@ -57,63 +57,48 @@ module _ (v : View) where
   none : 0 ≤ 1
   none = omega arith
 
-  ready_drops : (o : Slot) (k : Kind) → Drops (ready o k v)
-  ready_drops Empty k = none
-  ready_drops (Full x e) k = cond-elim Drops v.lines.nrfd (λ _. none)
+  ready_drops : (o : Option Byte) (k : Kind) → Drops (ready o k v)
+  ready_drops None k = none
+  ready_drops (Some y) k = cond-elim Drops v.lines.nrfd (λ _. none)
       (λ _. cond-elim Drops v.lines.ndac (λ _. none) (λ _. none))
 
-  ended_drops : (st : Standing) → Drops (ended st v)
-  ended_drops Nothing = none
-  ended_drops (Byte s k x e) = none
+  ended_drops : (st : Option Standing) → Drops (ended st v)
+  ended_drops None = none
+  ended_drops (Some st) = none
 
-  source_drops : (s : Source) (o : Slot) (k : Kind) → Drops (source_in s o k v)
+  source_drops : (s : Source) (o : Option Byte) (k : Kind) → Drops (source_in s o k v)
   source_drops Sids o k = none
-  source_drops Sgns o k = cond-elim Drops (is_full o) (λ _. none) (λ _. none)
+  source_drops Sgns o k = cond-elim Drops (is_some o) (λ _. none) (λ _. none)
   source_drops Sdys o k = ready_drops o k
   source_drops Strs o k = cond-elim Drops v.lines.ndac (λ _. none) (λ _. ended_drops v.standing)
 
-  takes_drops : (st : Standing) → Drops (takes st v)
-  takes_drops Nothing = none
-  takes_drops (Byte s k x e) = cond-elim Drops v.lines.atn (λ _. none) (λ _. none)
+  takes_drops : (st : Option Standing) → Drops (takes st v)
+  takes_drops None = none
+  takes_drops (Some st) = cond-elim Drops v.lines.atn (λ _. none) (λ _. none)
 
   acceptor_drops : (a : Acceptor) → Drops (acceptor_in a v)
-  acceptor_drops Aids = none
-  acceptor_drops Anrs = cond-elim Drops (v.lines.atn || not (is_full v.party.input)) (λ _. none) (λ _. none)
+  acceptor_drops Anrs = cond-elim Drops (v.lines.atn || not (is_some v.party.input)) (λ _. none) (λ _. none)
   acceptor_drops Acrs = cond-elim Drops v.lines.dav (λ _. takes_drops v.standing) (λ _. none)
-  acceptor_drops Acds = none
   acceptor_drops Awns = cond-elim Drops v.lines.dav (λ _. none) (λ _. none)
+  acceptor_drops a = none
 
-  read_drops : (s : Slot) → Drops (with_standing v.standing (read_out s v.party))
-  read_drops Empty = none
-  read_drops (Full x e) = none
+  read_drops : (s : Option Byte) → Drops (with_standing v.standing (read_out s v.party))
+  read_drops None = none
+  read_drops (Some y) = none
 
 effect_drops : (v : View) (c : Call) → Drops v (effect_of v c)
 effect_drops v (call_of.Of i act_of.Step) = let t = v.lines.atn in let p = v.party in
     cond-elim (Drops v) (is_source t p)
     (λ _. source_drops v p.source (offer (is_polled t p) p) (kind_of (is_active p) (is_polled t p)))
     (λ _. acceptor_drops v p.acceptor)
-effect_drops v (call_of.Of i (act_of.Write x e)) = none v
 effect_drops v (call_of.Of i act_of.Read) = read_drops v v.party.input
-effect_drops v (call_of.Of i (act_of.PollRegister x)) = none v
-effect_drops v (call_of.Of i (act_of.ListenOnly on)) = none v
-effect_drops v (call_of.Of i (act_of.TalkOnly on)) = none v
 effect_drops v (call_of.Of i act_of.TakeControl) = held_one v.party
 effect_drops v (call_of.Of i act_of.GoToStandby) = held_one v.party
-effect_drops v (call_of.Of i act_of.InterfaceClear) = none v
 effect_drops v (call_of.Of i act_of.Reset) =
     cond-elim (λ (o : Outcome). o.said.dropped ≤ 1) (is_active v.party) (λ _. held_one v.party)
     (λ _. held_one v.party)
 effect_drops v (call_of.Of i act_of.Drop) = held_one v.party
-effect_drops v (call_of.Of i (act_of.SecondRequest on)) = none v
-effect_drops v (call_of.Of i (act_of.DataOut x)) = none v
-effect_drops v (call_of.Of i act_of.MarkEnd) = none v
-effect_drops v (call_of.Of i act_of.BusStatus) = none v
-effect_drops v (call_of.Of i act_of.DoNothing) = none v
-effect_drops v (call_of.Of i act_of.NoRegister) = none v
-effect_drops v (call_of.Of i (act_of.OwnStatus on)) = none v
-effect_drops v (call_of.Of i act_of.ParallelPoll) = none v
-effect_drops v call_of.Lines = none v
-effect_drops v call_of.Drivers = none v
+effect_drops v c = none v
 
 -- Of parties of which one at the most is active, interface clear drops one byte at the most.
 clears_one : (n : ℕ) (ps : List Party)
@@ -136,120 +121,106 @@ clears_one (suc n) (p ∷ ps) h = test (is_active p)
 module _ (b : Bus) (I : Inv b) where
   followed_drops : (x : After) (t : Bool) (i : ℕ) (e : Effect) → e.said.dropped ≤ 1
       → (followed x t b i e).dropped ≤ 2
-  followed_drops after.Settle t i e h = omega arith
   followed_drops (after.Pass j) t i e h =
       let y = held_one e.party in let z = held_one (here b j.0) in omega arith
-  followed_drops after.Attend t i e h = omega arith
   followed_drops after.Clear t i e h =
       let y = clears_one b.count b.parties
       (λ k j f g. I.pre.charge k j (active_busy (here b k) f) (active_busy (here b j) g)) in
       let z = held_one (cleared (here b i)) in
       omega arith
-  followed_drops after.Poll t i e h = omega arith
+  followed_drops x t i e h = omega arith
 
 pub few_dropped : FewDropped
 few_dropped b led c =
     let l = lines b in
     let v = m.view_at (place_of c) l b in
-    cond-elim (λ (a : Answer). a.dropped ≤ 2) (is_accepted (m.refusal l b c))
+    cond-elim (λ (a : Answer). a.dropped ≤ 2) (is_accepted (m.verdict l b c))
     (λ _. followed_drops b (led_inv b led) (effect_of v c).after l.atn (place_of c).0 (effect_of v c)
     (effect_drops v c))
     (λ _. omega arith)
 
 followed_breaks : (x : After) (t : Bool) (b : Bus) (i : ℕ) (e : Effect) → (followed x t b i e).broken ≤ 1
 followed_breaks after.Settle t b i e = at_most_one (deserted t (set b.parties i e.party) e.standing)
-followed_breaks (after.Pass j) t b i e = at_most_one (stands e.standing)
-followed_breaks after.Attend t b i e = at_most_one (stands e.standing)
-followed_breaks after.Clear t b i e = at_most_one (stands e.standing)
 followed_breaks after.Poll t b i e = at_most_one (deserted t (set b.parties i e.party) e.standing)
+followed_breaks x t b i e = at_most_one (stands e.standing)
 
 pub one_broken : OneBroken
 one_broken b c =
     let l = lines b in
     let v = m.view_at (place_of c) l b in
-    cond-elim (λ (a : Answer). a.broken ≤ 1) (is_accepted (m.refusal l b c))
+    cond-elim (λ (a : Answer). a.broken ≤ 1) (is_accepted (m.verdict l b c))
     (λ _. followed_breaks (effect_of v c).after l.atn b (place_of c).0 (effect_of v c))
     (λ _. omega arith)
 
 pub refused_leaves : RefusedLeaves
 refused_leaves = reached.refused_leaves
 
--- The refusals that a call can meet: up to 9, and of these BADVALUE for an END or a switch over 1 alone; or NOREG, if
--- it asks for no register that is carried.
-abbrev is_met : ℕ → Refusal → Bool
-is_met s r = let n = refusal_number r in cond (eqb n 3) (ltb 1 s) (ltb n 10)
+-- The verdicts that a call can meet: no refusal, or one up to 9, and of these BADVALUE for an END or a switch over 1
+-- alone; or NOREG, if it asks for no register that is carried.
+abbrev is_met : ℕ → Verdict → Bool
+is_met s r = let n = verdict_number r in cond (eqb n 3) (ltb 1 s) (ltb n 10)
 
 abbrev switch_in : Call → ℕ
 switch_in (call_of.Of p a) = switch_of a
-switch_in call_of.Lines = 0
-switch_in call_of.Drivers = 0
+switch_in c = 0
 
-abbrev pub Met : Call → Refusal → Type 0
+abbrev pub Met : Call → Verdict → Type 0
 Met c r = (is_met (switch_in c) r ≡ true)
-    ⊎ ((r ≡ ruling.NoReg) × ((p : Place) × (c ≡ call_of.Of p act_of.NoRegister)))
+    ⊎ ((r ≡ Err ruling.NoReg) × ((p : Place) × (c ≡ call_of.Of p act_of.NoRegister)))
 
--- one refusal or acceptance
-either : (s : ℕ) (x : Bool) (r t : Refusal) → is_met s r ≡ true → is_met s t ≡ true → is_met s (cond x r t) ≡ true
+-- one verdict or the other
+either : (s : ℕ) (x : Bool) (r t : Verdict) → is_met s r ≡ true → is_met s t ≡ true → is_met s (cond x r t) ≡ true
 either s true r t f g = f
 either s false r t f g = g
 
-switched : (s : ℕ) (r : Refusal) → is_met s r ≡ true → is_met s (of_switch s r) ≡ true
-switched s r f = cond-elim (λ (x : Refusal). is_met s x ≡ true) (ltb 1 s) (λ h. h) (λ _. f)
+switched : (s : ℕ) (r : Verdict) → is_met s r ≡ true → is_met s (of_switch s r) ≡ true
+switched s r f = cond-elim (λ (x : Verdict). is_met s x ≡ true) (ltb 1 s) (λ h. h) (λ _. f)
 
 write_met : (s : ℕ) (v : View) → is_met s (write_refusal v) ≡ true
-write_met s v = either s (is_full v.party.held) _ _ refl refl
+write_met s v = either s (is_some v.party.held) _ _ refl refl
 
 active_met : (v : View) → is_met 0 (active_refusal (is_active v.party) (sends v)) ≡ true
 active_met v = either 0 (is_active v.party) _ _ (either 0 (sends v) _ _ refl refl) refl
 
 own_met : (v : View) (i : Place) (a : Act) → Met (call_of.Of i a) (own v a)
-own_met v i act_of.Step = inl refl
 own_met v i (act_of.Write x e) = inl (switched e (write_refusal v) (write_met e v))
-own_met v i act_of.Read = inl (either 0 (is_full v.party.input) _ _ refl refl)
-own_met v i (act_of.PollRegister x) = inl refl
+own_met v i act_of.Read = inl (either 0 (is_some v.party.input) _ _ refl refl)
 own_met v i (act_of.ListenOnly on) = inl (switched on (listen_refusal (is_on on) v.party.role.talk)
     (either on (is_on on) _ _ (either on v.party.role.talk _ _ refl refl) refl))
 own_met v i (act_of.TalkOnly on) = inl (switched on (talk_refusal (is_on on) v)
     (either on (is_on on) _ _ (either on v.party.role.listen _ _ refl
-    (either on v.lines.atn _ _ refl (either on (is_found v.talker) _ _ refl refl))) refl))
+    (either on v.lines.atn _ _ refl (either on (is_some v.talker) _ _ refl refl))) refl))
 own_met v i act_of.TakeControl = inl (either 0 (in_standby v.party.control) _ _ refl refl)
 own_met v i act_of.GoToStandby = inl (active_met v)
 own_met v i act_of.InterfaceClear = inl (either 0 v.chief _ _ refl refl)
 own_met v i act_of.Reset = inl (either 0 (sends v) _ _ refl refl)
-own_met v i act_of.Drop = inl refl
-own_met v i (act_of.SecondRequest on) = inl (switched on ruling.Accepted refl)
+own_met v i (act_of.SecondRequest on) = inl (switched on (Ok tt) refl)
 own_met v i (act_of.DataOut x) = inl (write_met 0 v)
-own_met v i act_of.MarkEnd = inl refl
-own_met v i act_of.BusStatus = inl refl
-own_met v i act_of.DoNothing = inl refl
 own_met v i act_of.NoRegister = inr (refl, (i, refl))
-own_met v i (act_of.OwnStatus on) = inl (switched on ruling.Accepted refl)
+own_met v i (act_of.OwnStatus on) = inl (switched on (Ok tt) refl)
 own_met v i act_of.ParallelPoll = inl (active_met v)
+own_met v i a = inl refl
 
 judge_met : (v : View) (c : Call) → Met c (judge v c)
 judge_met v (call_of.Of i a) = cond-elim (Met (call_of.Of i a)) v.inside (λ _. own_met v i a) (λ _. inl refl)
-judge_met v call_of.Lines = inl refl
-judge_met v call_of.Drivers = inl refl
+judge_met v c = inl refl
 
 followed_met : (s : ℕ) (x : After) (t : Bool) (b : Bus) (i : ℕ) (e : Effect)
-    → is_met s (followed x t b i e).refusal ≡ true
+    → is_met s (followed x t b i e).verdict ≡ true
 followed_met s after.Settle t b i e = refl
-followed_met s (after.Pass j) t b i e = refl
-followed_met s after.Attend t b i e = refl
-followed_met s after.Clear t b i e = refl
-followed_met s after.Poll t b i e = refl
+followed_met s x t b i e = refl
 
-pub call_met : (b : Bus) (c : Call) → Met c (m.call b c).refusal
+pub call_met : (b : Bus) (c : Call) → Met c (m.call b c).verdict
 call_met b c =
     let l = lines b in
     let v = m.view_at (place_of c) l b in
-    cond-elim (λ (a : Answer). Met c a.refusal) (is_accepted (m.refusal l b c))
+    cond-elim (λ (a : Answer). Met c a.verdict) (is_accepted (m.verdict l b c))
     (λ _. inl (followed_met (switch_in c) (effect_of v c).after l.atn b (place_of c).0 (effect_of v c)))
     (λ _. judge_met v c)
 
 pub never_record : NeverRecord
 never_record b c e = go (call_met b c)
   where
-    go : Met c (m.call b c).refusal → ⊥
+    go : Met c (m.call b c).verdict → ⊥
     go (inl h) = let z : false ≡ true = rw e at h in no (cc)
     go (inr h) = let z = h.0 in no (cc)

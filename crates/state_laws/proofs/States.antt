@@ -3,16 +3,16 @@
 use mathlib.Core.Path.{◌≡◌, refl, sym, ap}
 use mathlib.Core.Bool.{Bool, true, false, ◌||◌}
 use Prim.Native.Nat.{ℕ}
+use Rattle.std.specs.Prelude.{Option, Some, None, is_some}
 use borrow.Author.Tests.{eqb-true, ne_eqb}
 use Rattle.role.proofs.Logic.{no, test}
-use Rattle.offer.specs.Offer.{is_full}
 use Rattle.party.specs.Driving.{is_active, dav_at, drives_dav}
 use Rattle.party.specs.Sending.{is_source}
 use Rattle.parties.specs.Places.{place}
 use Rattle.parties.proofs.Places.{some_seen, some_true}
-use Rattle.effect.specs.Stands.{stands}
+use Rattle.effect.specs.Stands.{stands, sent}
 use Rattle.bus.specs.declared.Bus.{Bus}
-use Rattle.bus.specs.Types.{Place, Party, Slot, Empty, Full, Kind, Command, Data, Status, Standing, Nothing, Byte}
+use Rattle.bus.specs.Types.{Place, Party, Byte, Kind, Command, Data, Status, Standing}
 use Rattle.bus.specs.Record.{here, lines}
 use Rattle.bus.proofs.Invariant.{Inv, atn_of, sent_by, of_data, in_acrs, is_acrs, is_strs, look}
 use Rattle.bus.proofs.Summary.{none_ready}
@@ -36,26 +36,31 @@ data_kind Command e = no (cc)
 data_kind Data e = refl
 data_kind Status e = no (cc)
 
-is_empty : (s : Slot) → is_full s ≡ false → s ≡ Empty
-is_empty Empty e = refl
-is_empty (Full v x) e = no (cc)
+is_empty : (s : Option Byte) → is_some s ≡ false → s ≡ None
+is_empty None e = refl
+is_empty (Some y) e = no (cc)
 
 module _ (b : Bus) (I : Inv b) where
-  sent_byte : (st : Standing) (j : ℕ) → sent_by j st ≡ true
-      → (k : Kind) × (v : ℕ) × (e : Bool) × (st ≡ Byte (place j) k v e)
-  sent_byte Nothing j h = no (cc)
-  sent_byte (Byte s k v e) j h = (k, v, e, ap (λ (n : ℕ). Byte (place n) k v e) (sym (eqb-true j s.0 h)))
+  sent_byte : (st : Option Standing) (j : ℕ) → sent_by j st ≡ true
+      → (k : Kind) × (v : ℕ) × (e : Bool) × (st ≡ Some (sent (place j) k v e))
+  sent_byte None j h = no (cc)
+  sent_byte (Some st) j h = (
+    st.kind,
+    st.value,
+    st.end,
+    ap (λ (n : ℕ). Some (sent (place n) st.kind st.value st.end)) (sym (eqb-true j st.sender.0 h)),
+  )
 
-  dav : (st : Standing) → b.standing ≡ st → (lines b).dav ≡ stands st
-  dav Nothing e = test (lines b).dav
+  dav : (st : Option Standing) → b.standing ≡ st → (lines b).dav ≡ stands st
+  dav None e = test (lines b).dav
       (λ h. let f = some_true b.count drives_dav b.parties h in
       let s = I.pre.sends f.0 (is_strs (here b f.0).source f.1) in no (cc))
       (λ h. h)
-  dav (Byte s k v x) e = some_seen b.count drives_dav b.parties refl I.pre.tail s.0
-      (ap dav_at (sender_in_strs b I s k v x e))
+  dav (Some st) e = some_seen b.count drives_dav b.parties refl I.pre.tail st.sender.0
+      (ap dav_at (sender_in_strs b I st.sender st.kind st.value st.end e))
 
   -- who has heard what stands, and is not its sender, is as it looks
-  looks : (p : Place) (v : ℕ) (e : Bool) → b.standing ≡ Byte p Command v e → (lines b).ndac ≡ false → (j : ℕ)
+  looks : (p : Place) (v : ℕ) (e : Bool) → b.standing ≡ Some (sent p Command v e) → (lines b).ndac ≡ false → (j : ℕ)
       → (j ≡ p.0 → ⊥) → (here b j).role.talk ≡ true → (look b.standing j (here b j)).talk ≡ true
   looks p v e st nd j ne h = rw (st, ne_eqb j p.0 ne, unready) h
     where

@@ -12,6 +12,7 @@ use lib.Dec.{ltb, eqb}
 use borrow.Author.Tests.{eqb-true, eqb-false, eq-eqb, ne_eqb, ltb-true, ltb-false, lt-ltb, le-ltb}
 use Rattle.role.proofs.Logic.{test, cond-elim, both, or_right}
 use Rattle.parties.specs.Places.{within}
+use Rattle.parties.proofs.Loops.{within_same}
 use Rattle.bus.specs.declared.Bus.{Bus}
 use Rattle.bus.specs.Machine as m
 use Rattle.bus.specs.Delivery.{history}
@@ -105,8 +106,7 @@ pub turns_of_lem : (tie : TieOrder) (b : Bus) → 0 < b.count → b.count ≤ 15
 turns_of_lem tie b l k t = rw (ne_eqb b.count 0 (λ f. omega arith), fits) refl
   where
     fits : within b.count ≡ b.count
-    fits = cond-elim (λ (z : ℕ). z ≡ b.count) (ltb b.count 15) (λ _. refl)
-        (λ f. let z = ltb-false b.count 15 f in omega arith)
+    fits = within_same (λ (n : ℕ). n) b.count (λ h. omega arith)
 
 pub first_round : FirstRound
 first_round b small t i j l k u = is_before b _ _ (rw (at i (omega arith) (omega arith), at j k u)

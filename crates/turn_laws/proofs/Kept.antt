@@ -7,11 +7,12 @@ use mathlib.Core.List.{List}
 use Prim.Native.Nat.{ℕ}
 use lib.Dec.{eqb}
 use lib.ListN.{set}
+use Rattle.std.specs.Prelude.{Option, Some, None, is_some}
 use Rattle.message.specs.Meaning.{meaning_of}
 use Rattle.role.proofs.Logic.{cond-elim}
 use Rattle.role.specs.Roles.{role_heard}
 use Rattle.role.proofs.Roles.{hear_name}
-use Rattle.offer.specs.Offer.{is_full, kind_of}
+use Rattle.offer.specs.Offer.{kind_of}
 use Rattle.party.specs.declared.Latches.{Latches}
 use Rattle.party.specs.Driving.{is_active}
 use Rattle.party.specs.Sending.{is_source, is_polled, offer}
@@ -28,9 +29,8 @@ use Rattle.bus.specs.Record.{here, lines}
 use Rattle.bus.specs.Settling.{followed}
 use Rattle.bus.specs.Machine as m
 use Rattle.bus.specs.declared.Bus.{Bus}
-use Rattle.bus.specs.Types.{Place, Name, Party, Idle, Active, Source, Sids, Sgns, Sdys, Strs, Acceptor, Aids, Anrs}
-use Rattle.bus.specs.Types.{Acrs, Acds, Awns, Slot, Empty, Full, Kind, Standing, Nothing, Byte, Call, After, Outcome}
-use Rattle.bus.specs.Types.{Effect, View}
+use Rattle.bus.specs.Types.{Place, Name, Party, Idle, Active, Source, Sgns, Sdys, Strs, Acceptor, Anrs}
+use Rattle.bus.specs.Types.{Acrs, Awns, Byte, Kind, Standing, Call, After, Outcome, Effect, View}
 use Rattle.bus.specs.Types.after
 use Rattle.bus.specs.Types.call_of
 use Rattle.bus.specs.Types.act_of
@@ -48,32 +48,31 @@ module _ (v : View) where
   abbrev Same : Effect → Type 0
   Same e = steady e.party ≡ steady v.party
 
-  ready_same : (o : Slot) (k : Kind) → Same (ready o k v)
-  ready_same Empty k = refl
-  ready_same (Full x e) k = cond-elim Same v.lines.nrfd (λ _. refl)
+  ready_same : (o : Option Byte) (k : Kind) → Same (ready o k v)
+  ready_same None k = refl
+  ready_same (Some y) k = cond-elim Same v.lines.nrfd (λ _. refl)
       (λ _. cond-elim Same v.lines.ndac (λ _. refl) (λ _. refl))
 
-  ended_same : (st : Standing) → Same (ended st v)
-  ended_same Nothing = refl
-  ended_same (Byte s k x e) = cond-elim (λ (q : Party). steady q ≡ steady v.party) (of_command k)
-      (λ _. hear_kept x v.party) (λ _. refl)
+  ended_same : (st : Option Standing) → Same (ended st v)
+  ended_same None = refl
+  ended_same (Some st) = cond-elim (λ (q : Party). steady q ≡ steady v.party) (of_command st.kind)
+      (λ _. hear_kept st.value v.party) (λ _. refl)
 
-  source_same : (s : Source) (o : Slot) (k : Kind) → Same (source_in s o k v)
-  source_same Sids o k = refl
-  source_same Sgns o k = cond-elim Same (is_full o) (λ _. refl) (λ _. refl)
+  source_same : (s : Source) (o : Option Byte) (k : Kind) → Same (source_in s o k v)
+  source_same Sgns o k = cond-elim Same (is_some o) (λ _. refl) (λ _. refl)
   source_same Sdys o k = ready_same o k
   source_same Strs o k = cond-elim Same v.lines.ndac (λ _. refl) (λ _. ended_same v.standing)
+  source_same s o k = refl
 
-  takes_same : (st : Standing) → Same (takes st v)
-  takes_same Nothing = refl
-  takes_same (Byte s k x e) = cond-elim Same v.lines.atn (λ _. hear_kept x v.party) (λ _. refl)
+  takes_same : (st : Option Standing) → Same (takes st v)
+  takes_same None = refl
+  takes_same (Some st) = cond-elim Same v.lines.atn (λ _. hear_kept st.value v.party) (λ _. refl)
 
   acceptor_same : (a : Acceptor) → Same (acceptor_in a v)
-  acceptor_same Aids = refl
-  acceptor_same Anrs = cond-elim Same (v.lines.atn || not (is_full v.party.input)) (λ _. refl) (λ _. refl)
+  acceptor_same Anrs = cond-elim Same (v.lines.atn || not (is_some v.party.input)) (λ _. refl) (λ _. refl)
   acceptor_same Acrs = cond-elim Same v.lines.dav (λ _. takes_same v.standing) (λ _. refl)
-  acceptor_same Acds = refl
   acceptor_same Awns = cond-elim Same v.lines.dav (λ _. refl) (λ _. refl)
+  acceptor_same a = refl
 
   step_same : Same (step v)
   step_same = let t = v.lines.atn in let p = v.party in
@@ -87,23 +86,18 @@ latched (call_of.Of i a) l = let n = act_number a in record {
   feoi = cond (eqb n 15) true (cond (eqb n 10 || eqb n 14) false l.feoi);
   ist = cond (eqb n 19) (is_on (switch_of a)) l.ist;
 }
-latched call_of.Lines l = l
-latched call_of.Drivers l = l
+latched c l = l
 
 -- Control goes on from a party, and the interface is cleared by one, whose latches are as they were.
 abbrev Fair : After → Party → Party → Type 0
-Fair after.Settle p q = q ≡ q
 Fair (after.Pass j) p q = steady q ≡ steady p
-Fair after.Attend p q = q ≡ q
 Fair after.Clear p q = steady q ≡ steady p
-Fair after.Poll p q = q ≡ q
+Fair x p q = q ≡ q
 
 fair : (x : After) (p q : Party) → steady q ≡ steady p → Fair x p q
-fair after.Settle p q e = refl
 fair (after.Pass j) p q e = e
-fair after.Attend p q e = refl
 fair after.Clear p q e = e
-fair after.Poll p q e = refl
+fair x p q e = refl
 
 -- what a call's effect leaves of its own party
 abbrev Leaves : Call → Party → Outcome → Type 0
@@ -112,34 +106,17 @@ Leaves c p o = (steady o.party ≡ (p.role.name, latched c p.latches)) × Fair o
 abbrev told_by : Effect → Outcome
 told_by e = record { said = e.said; after = e.after; party = e.party }
 
-read_leaves : (i : Place) (s : Slot) (p : Party) → Leaves (call_of.Of i act_of.Read) p (read_out s p)
-read_leaves i Empty p = (refl, refl)
-read_leaves i (Full x e) p = (refl, refl)
+read_leaves : (i : Place) (s : Option Byte) (p : Party) → Leaves (call_of.Of i act_of.Read) p (read_out s p)
+read_leaves i None p = (refl, refl)
+read_leaves i (Some y) p = (refl, refl)
 
 effect_leaves : (v : View) (c : Call) → Leaves c v.party (told_by (effect_of v c))
 effect_leaves v (call_of.Of i act_of.Step) =
     (step_same v, fair (step v).after v.party (step v).party (step_same v))
-effect_leaves v (call_of.Of i (act_of.Write x e)) = (refl, refl)
 effect_leaves v (call_of.Of i act_of.Read) = read_leaves i v.party.input v.party
-effect_leaves v (call_of.Of i (act_of.PollRegister x)) = (refl, refl)
-effect_leaves v (call_of.Of i (act_of.ListenOnly on)) = (refl, refl)
-effect_leaves v (call_of.Of i (act_of.TalkOnly on)) = (refl, refl)
-effect_leaves v (call_of.Of i act_of.TakeControl) = (refl, refl)
-effect_leaves v (call_of.Of i act_of.GoToStandby) = (refl, refl)
-effect_leaves v (call_of.Of i act_of.InterfaceClear) = (refl, refl)
 effect_leaves v (call_of.Of i act_of.Reset) = cond-elim (Leaves (call_of.Of i act_of.Reset) v.party)
     (is_active v.party) (λ _. (refl, refl)) (λ _. (refl, refl))
-effect_leaves v (call_of.Of i act_of.Drop) = (refl, refl)
-effect_leaves v (call_of.Of i (act_of.SecondRequest on)) = (refl, refl)
-effect_leaves v (call_of.Of i (act_of.DataOut x)) = (refl, refl)
-effect_leaves v (call_of.Of i act_of.MarkEnd) = (refl, refl)
-effect_leaves v (call_of.Of i act_of.BusStatus) = (refl, refl)
-effect_leaves v (call_of.Of i act_of.DoNothing) = (refl, refl)
-effect_leaves v (call_of.Of i act_of.NoRegister) = (refl, refl)
-effect_leaves v (call_of.Of i (act_of.OwnStatus on)) = (refl, refl)
-effect_leaves v (call_of.Of i act_of.ParallelPoll) = (refl, refl)
-effect_leaves v call_of.Lines = (refl, refl)
-effect_leaves v call_of.Drivers = (refl, refl)
+effect_leaves v c = (refl, refl)
 
 pub effect_kept : (v : View) (c : Call)
     → steady (effect_of v c).party ≡ (v.party.role.name, latched c v.party.latches)
@@ -158,7 +135,6 @@ module _ (b : Bus) (i : ℕ) (e : Effect) where
 
   followed_same : (x : After) → Fair x (here b i) e.party → (t : Bool) (j : ℕ)
       → steady (here (followed x t b i e).bus j) ≡ steady (at (set b.parties i e.party) j)
-  followed_same after.Settle f t j = settled_same t (set b.parties i e.party) j
   followed_same (after.Pass k) f t j =
       let left = set b.parties i (change_control Idle e.party) in
       let same = set_part steady b.parties i (change_control Idle e.party) f in
@@ -171,7 +147,7 @@ module _ (b : Bus) (i : ℕ) (e : Effect) where
       let same = each_part steady b.count cleared b.parties (λ p. refl) in
       attended_same (set all i e.party) j ∙ set_part steady all i e.party (f ∙ sym (same i)) j ∙ same j
       ∙ sym (set_part steady b.parties i e.party f j)
-  followed_same after.Poll f t j = settled_same t (set b.parties i e.party) j
+  followed_same x f t j = settled_same t (set b.parties i e.party) j
 
 -- An accepted call leaves every name, and of the latches those that are not its own party's.
 pub accepted_kept : (b : Bus) (c : Call) (j : ℕ) → let v = m.view_at (place_of c) (lines b) b in

@@ -9,6 +9,7 @@ use lib.Dec.{eqb}
 use lib.ListN.{length, set}
 use lib.Seq.{get_or-set_same, get_or-set_other}
 use borrow.Author.Tests.{eqb-true, eqb-false}
+use Rattle.std.specs.Prelude.{Ok}
 use Rattle.role.proofs.Logic.{no, test, cond-elim}
 use Rattle.party.specs.declared.Latches.{Latches}
 use Rattle.party.specs.Parts.{idle}
@@ -21,7 +22,6 @@ use Rattle.addresses.specs.Addresses.{bad_build}
 use Rattle.bus.specs.declared.Bus.{Bus}
 use Rattle.bus.specs.declared.Answer.{Answer}
 use Rattle.bus.specs.Types.{Place, Name, Party, Act, Call, After, Effect}
-use Rattle.bus.specs.Types.ruling
 use Rattle.bus.specs.Types.after
 use Rattle.bus.specs.Types.call_of
 use Rattle.bus.specs.Record.{here, lines, build_extended}
@@ -43,19 +43,18 @@ use Rattle.turn_laws.proofs.Kept.{latched, effect_kept, accepted_kept}
 -- the latches that an accepted call leaves party q with
 abbrev latched_at : ℕ → Call → Latches → Latches
 latched_at q (call_of.Of p a) l = cond (eqb q p.0) (latched (call_of.Of p a) l) l
-latched_at q call_of.Lines l = l
-latched_at q call_of.Drivers l = l
+latched_at q c l = l
 
 -- an accepted call, on its own party and on the others
 module _ (b : Bus) (I : Inv b) (q : ℕ) where
-  accepted_latches : (c : Call) → is_accepted (m.refusal (lines b) b c) ≡ true
+  accepted_latches : (c : Call) → is_accepted (m.verdict (lines b) b c) ≡ true
       → (here (m.accepted (lines b) b c).bus q).latches ≡ latched_at q c (here b q).latches
   accepted_latches c ok = ap (λ (x : Name × Latches). x.1) (accepted_kept b c q) ∙ go c ok
     where
       new : Call → Party
       new c = (effect_of (m.view_at (place_of c) (lines b) b) c).party
 
-      go : (c : Call) → is_accepted (m.refusal (lines b) b c) ≡ true
+      go : (c : Call) → is_accepted (m.verdict (lines b) b c) ≡ true
           → (at (set b.parties (place_of c).0 (new c)) q).latches ≡ latched_at q c (here b q).latches
       go (call_of.Of p a) ok = test (eqb q p.0) same other
         where
@@ -78,23 +77,18 @@ module _ (b : Bus) (I : Inv b) (q : ℕ) where
           other : eqb q p.0 ≡ false
               → (at (set b.parties p.0 (new c')) q).latches ≡ latched_at q c' (here b q).latches
           other e = rw (e, get_or-set_other b.parties p.0 q (new c') idle (eqb-false q p.0 e)) refl
-      go call_of.Lines ok = set_part (λ (p : Party). p.latches) b.parties 0 (new call_of.Lines) refl q
-      go call_of.Drivers ok = set_part (λ (p : Party). p.latches) b.parties 0 (new call_of.Drivers) refl q
+      go c ok = set_part (λ (p : Party). p.latches) b.parties 0 (new c) refl q
 
-followed_accepted : (x : After) (t : Bool) (b : Bus) (i : ℕ) (e : Effect)
-    → (followed x t b i e).refusal ≡ ruling.Accepted
+followed_accepted : (x : After) (t : Bool) (b : Bus) (i : ℕ) (e : Effect) → (followed x t b i e).verdict ≡ Ok tt
 followed_accepted after.Settle t b i e = refl
-followed_accepted (after.Pass j) t b i e = refl
-followed_accepted after.Attend t b i e = refl
-followed_accepted after.Clear t b i e = refl
-followed_accepted after.Poll t b i e = refl
+followed_accepted x t b i e = refl
 
 call_latches : (b : Bus) → Inv b → (c : Call) (q : ℕ) → (here (m.call b c).bus q).latches
-    ≡ cond (is_accepted (m.call b c).refusal) (latched_at q c (here b q).latches) (here b q).latches
+    ≡ cond (is_accepted (m.call b c).verdict) (latched_at q c (here b q).latches) (here b q).latches
 call_latches b I c q = cond-elim
     (λ (a : Answer). (here a.bus q).latches
-    ≡ cond (is_accepted a.refusal) (latched_at q c (here b q).latches) (here b q).latches)
-    (is_accepted (m.refusal (lines b) b c))
+    ≡ cond (is_accepted a.verdict) (latched_at q c (here b q).latches) (here b q).latches)
+    (is_accepted (m.verdict (lines b) b c))
     (λ ok. let e = effect_of (m.view_at (place_of c) (lines b) b) c in
     rw (followed_accepted e.after (lines b).atn b (place_of c).0 e) (accepted_latches b I q c ok))
     (λ no. rw no refl)
@@ -112,14 +106,13 @@ module _ (switch : Latches → Bool) (by : Act → Bool → Bool)
 
   after_call : (q : ℕ) (c : Call) (l : Latches) → switch (latched_at q c l) ≡ switch_after by q c (switch l)
   after_call q (call_of.Of p a) l = either (eqb q p.0) l (law p a l)
-  after_call q call_of.Lines l = refl
-  after_call q call_of.Drivers l = refl
+  after_call q c l = refl
 
   call_switched : (b : Bus) → Inv b → (c : Call) (q : ℕ) → switch_at (m.call b c).bus q
-      ≡ cond (is_accepted (m.call b c).refusal) (switch_after by q c (switch_at b q)) (switch_at b q)
+      ≡ cond (is_accepted (m.call b c).verdict) (switch_after by q c (switch_at b q)) (switch_at b q)
   unfolding switch_at
   call_switched b I c q = ap switch (call_latches b I c q)
-      ∙ either (is_accepted (m.call b c).refusal) (here b q).latches (after_call q c (here b q).latches)
+      ∙ either (is_accepted (m.call b c).verdict) (here b q).latches (after_call q c (here b q).latches)
 
   run_switched : (b : Bus) → Inv b → (cs : List Call) (q : ℕ)
       → switch_at (m.run b cs) q ≡ told by q (history b cs) (switch_at b q)
@@ -129,11 +122,11 @@ module _ (switch : Latches → Bool) (by : Act → Bool → Bool)
 
   -- off at build
   start_off : switch idle.latches ≡ false → (names : List Name) (system : Place)
-      → (build_extended names system).refusal ≡ ruling.Accepted
+      → (build_extended names system).verdict ≡ Ok tt
       → (q : ℕ) → switch_at (build_extended names system).bus q ≡ false
   unfolding switch_at
   start_off off names system ok q = cond-elim
-      (λ (a : Answer). a.refusal ≡ ruling.Accepted → switch (here a.bus q).latches ≡ false) (bad_build names system)
+      (λ (a : Answer). a.verdict ≡ Ok tt → switch (here a.bus q).latches ≡ false) (bad_build names system)
       (λ _ r. no (cc))
       (λ e _. all_new names system e (λ p. switch p.latches ≡ false) (λ n. off) q)
       ok

@@ -1,7 +1,7 @@
 -- A step changes one party: on a bus that has settled, settling touches no other.
 -- Assumes nothing.
 use mathlib.Core.Path.{◌≡◌, refl, ap, ◌∙◌}
-use mathlib.Core.Bool.{Bool, true, false, not, ◌||◌}
+use mathlib.Core.Bool.{true, false, not, ◌||◌}
 use mathlib.Core.List.{List, [], ◌∷◌}
 use Prim.Native.Nat.{ℕ, zero, suc, ◌<◌}
 use native.Mathlib.Omega.{arith}
@@ -10,13 +10,13 @@ use lib.Dec.{ltb}
 use lib.ListN.{length, set}
 use lib.Seq.{get_or-set_same, get_or-set_other}
 use borrow.Author.Tests.{lt-ltb}
-use Rattle.offer.specs.Offer.{is_full}
+use Rattle.std.specs.Prelude.{Option, Some, None, is_some}
 use Rattle.party.specs.Parts.{idle}
 use Rattle.party.specs.Driving.{is_active}
 use Rattle.party.specs.Sending.{is_source}
 use Rattle.party.specs.Settling.{settled}
 use Rattle.role.proofs.Logic.{no, test, cond-elim}
-use Rattle.parties.specs.Places.{place, at, each, other_talker}
+use Rattle.parties.specs.Places.{place, at, each}
 use Rattle.parties.proofs.Places.{each_still, some_set}
 use Rattle.effect.specs.Effects.{does}
 use Rattle.source_step.specs.SourceStep.{source_step}
@@ -30,7 +30,7 @@ use Rattle.bus.proofs.EachCall.{call_good}
 use Rattle.bus.proofs.Reached.{sender_is_source}
 use Rattle.bus.specs.declared.Bus.{Bus}
 use Rattle.bus.specs.declared.Answer.{Answer}
-use Rattle.bus.specs.Types.{Party, Acceptor, Aids, Anrs, Acrs, Acds, Awns, Standing, Nothing, Byte, Effect, Said, View}
+use Rattle.bus.specs.Types.{Party, Acceptor, Anrs, Acrs, Awns, Standing, Effect, Said, View}
 use Rattle.bus.specs.Types.after
 use Rattle.bus.specs.Types.ruling
 use Rattle.runner.specs.Runner.{step_of}
@@ -43,15 +43,14 @@ each_set (suc n) f (p ∷ ps) zero q l h = rw (each_still n f ps (λ j. h (suc j
 each_set (suc n) f (p ∷ ps) (suc i) q l h = rw (h 0, each_set n f ps i q (le_of_suc-le-suc l) (λ j. h (suc j))) refl
 
 -- the answer of a call that changes party i alone, and may change what stands
-abbrev pub local : Bus → ℕ → Said → Party → Standing → Answer
-local b i s q st = answered false s (record
-    { parties = set b.parties i (settled (atn_of b) q); count = b.count; system = b.system; standing = st })
+abbrev pub local : Bus → ℕ → Said → Party → Option Standing → Answer
+local b i s q st = answered false s (record b { parties = set b.parties i (settled (atn_of b) q); standing = st })
 
 module _ (b : Bus) (I : Inv b) (i : ℕ) (l : i < b.count) where
   room : i < length b.parties
   room = let z = I.size in let s = I.small in omega arith
 
-  pub touch_local : (s : Said) (q : Party) (st : Standing) → deserted (atn_of b) (set b.parties i q) st ≡ false
+  pub touch_local : (s : Said) (q : Party) (st : Option Standing) → deserted (atn_of b) (set b.parties i q) st ≡ false
       → settle (atn_of b) b i (does s q st) ≡ local b i s q st
   touch_local s q st ok = rw (ok, each_set b.count (settled (atn_of b)) b.parties i q l I.still) refl
 
@@ -59,21 +58,19 @@ module _ (b : Bus) (I : Inv b) (i : ℕ) (l : i < b.count) where
   set_here q = get_or-set_same b.parties i q idle room
 
   -- what stands is not deserted where its sender, another party, is a source still
-  pub not_deserted : (st : Standing) → b.standing ≡ st → (q : Party) → is_source (atn_of b) (here b i) ≡ false
+  pub not_deserted : (st : Option Standing) → b.standing ≡ st → (q : Party) → is_source (atn_of b) (here b i) ≡ false
       → deserted (atn_of b) (set b.parties i q) st ≡ false
-  not_deserted Nothing e q ns = refl
-  not_deserted (Byte s k v x) e q ns = rw (
-    get_or-set_other b.parties i s.0 q idle other,
-    sender_is_source b I s k v
-        x e,
-  ) refl
+  not_deserted None e q ns = refl
+  not_deserted (Some st) e q ns = rw (get_or-set_other b.parties i st.sender.0 q idle other, source) refl
     where
-      other : s.0 ≡ i → ⊥
-      other h = let z = sender_is_source b I s k v x e in let y = ap (λ (j : ℕ). is_source (atn_of b) (here b j)) h in
-          no (cc)
+      source : is_source (atn_of b) (here b st.sender.0) ≡ true
+      source = sender_is_source b I st.sender st.kind st.value st.end e
+
+      other : st.sender.0 ≡ i → ⊥
+      other h = let y = ap (λ (j : ℕ). is_source (atn_of b) (here b j)) h in let z = source in no (cc)
 
   -- what such a call leaves as it was
-  module _ (s : Said) (q : Party) (st : Standing) where
+  module _ (s : Said) (q : Party) (st : Option Standing) where
     pub local_other : (j : ℕ) → (j ≡ i → ⊥) → here (local b i s q st).bus j ≡ here b j
     local_other j ne = get_or-set_other b.parties i j (settled (atn_of b) q) idle ne
 
@@ -84,7 +81,7 @@ module _ (b : Bus) (I : Inv b) (i : ℕ) (l : i < b.count) where
     local_atn e = some_set b.count is_active b.parties i (settled (atn_of b) q) e
 
 -- a step of a party that is there is accepted
-call_step : (b : Bus) → Inv b → (i : ℕ) → i < b.count
+pub call_step : (b : Bus) → Inv b → (i : ℕ) → i < b.count
     → m.call b (step_of i) ≡ follow (atn_of b) b i (step (m.view_at (place i) (lines b) b))
 call_step b I i l = let s = I.small in rw (lt-ltb i 15 (omega arith), lt-ltb i b.count l) refl
 
@@ -111,19 +108,18 @@ module _ (v : View) where
       → Calm v (does s q v.standing)
   calm_move s q c r = record { follows = refl; standing = refl; control = rw c refl; source = rw (c, r) refl }
 
-  calm_takes : (st : Standing) → Calm v (takes st v)
-  calm_takes Nothing = calm_move _ _ refl refl
-  calm_takes (Byte s k x e) = cond-elim (Calm v) v.lines.atn
+  calm_takes : (st : Option Standing) → Calm v (takes st v)
+  calm_takes None = calm_move _ _ refl refl
+  calm_takes (Some st) = cond-elim (Calm v) v.lines.atn
       (λ t. record { follows = refl; standing = refl; control = refl; source = rw t refl })
       (λ _. calm_move _ _ refl refl)
 
   calm_step : (a : Acceptor) → Calm v (acceptor_in a v)
-  calm_step Aids = calm_move _ _ refl refl
-  calm_step Anrs = cond-elim (Calm v) (v.lines.atn || not (is_full v.party.input))
+  calm_step Anrs = cond-elim (Calm v) (v.lines.atn || not (is_some v.party.input))
       (λ _. calm_move _ _ refl refl) (λ _. calm_move _ _ refl refl)
   calm_step Acrs = cond-elim (Calm v) v.lines.dav (λ _. calm_takes v.standing) (λ _. calm_move _ _ refl refl)
-  calm_step Acds = calm_move _ _ refl refl
   calm_step Awns = cond-elim (Calm v) v.lines.dav (λ _. calm_move _ _ refl refl) (λ _. calm_move _ _ refl refl)
+  calm_step a = calm_move _ _ refl refl
 
 -- party i takes the acceptor step
 abbrev pub Accepts : Bus → ℕ → Type 0

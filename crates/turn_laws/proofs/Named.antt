@@ -4,6 +4,7 @@ use mathlib.Core.Path.{◌≡◌, refl, ap, ◌∙◌}
 use mathlib.Core.List.{List, [], ◌∷◌}
 use Prim.Native.Nat.{ℕ}
 use lib.ListN.{get_or}
+use Rattle.std.specs.Prelude.{Ok}
 use Rattle.message.specs.Meaning.{address}
 use Rattle.names.specs.Names.{plain}
 use Rattle.role.proofs.Logic.{no, cond-elim}
@@ -16,9 +17,7 @@ use Rattle.bus.specs.Record.{lines}
 use Rattle.bus.specs.Machine as m
 use Rattle.bus.specs.declared.Bus.{Bus}
 use Rattle.bus.specs.declared.Answer.{Answer}
-use Rattle.bus.specs.Types.{Name, Party}
-use Rattle.bus.specs.Types.{Call}
-use Rattle.bus.specs.Types.ruling
+use Rattle.bus.specs.Types.{Name, Party, Call}
 use Rattle.addresses.proofs.Unrefused.{fits}
 use Rattle.bus.proofs.Built.{placed_at}
 use Rattle.runner.specs.Ties.{name_at}
@@ -35,7 +34,7 @@ call_names b c j =
     let i = (place_of c).0 in
     let v = m.view_at (place_of c) (lines b) b in
     let q = (effect_of v c).party in
-    cond-elim (λ (a : Answer). name_at a.bus j ≡ name_at b j) (is_accepted (m.refusal (lines b) b c))
+    cond-elim (λ (a : Answer). name_at a.bus j ≡ name_at b j) (is_accepted (m.verdict (lines b) b c))
     (λ _. ap (λ (x : Name × Latches). x.0) (accepted_kept b c j)
     ∙ set_part name_of b.parties i q (ap (λ (x : Name × Latches). x.0) (effect_kept v c)) j)
     (λ _. refl)
@@ -47,7 +46,7 @@ run_names b (c ∷ cs) j = run_names (m.call b c).bus cs j ∙ call_names b c j
 pub named : Named
 named names _ (led {b} (built system ok) tie xs) p h =
     ap (λ (c : Bus). name_at c p) (stands_for_steps tie b xs) ∙ run_names b (expanded tie b xs) p
-    ∙ cond-elim (λ (a : Answer). a.refusal ≡ ruling.Accepted → name_at a.bus p ≡ get_or names p (plain (address 0)))
+    ∙ cond-elim (λ (a : Answer). a.verdict ≡ Ok tt → name_at a.bus p ≡ get_or names p (plain (address 0)))
     (bad_build names system)
     (λ _ r. no (cc))
     (λ e _. ap name_of (placed_at 15 names p h (fits names system e)))

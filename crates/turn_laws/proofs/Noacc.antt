@@ -7,14 +7,15 @@ use Prim.Native.Nat.{ℕ, ◌<◌}
 use lib.Dec.{ltb}
 use lib.Seq.{set-get_or}
 use borrow.Author.Tests.{ltb-true}
+use Rattle.std.specs.Prelude.{Option, Some, None, is_some}
 use Rattle.message.specs.Meaning.{meaning_of}
-use Rattle.offer.specs.Offer.{is_full, kind_of, end_of}
+use Rattle.offer.specs.Offer.{kind_of, end_of}
 use Rattle.role.proofs.Logic.{no, test, cond-elim}
 use Rattle.role.proofs.Roles.{hear_events}
 use Rattle.party.specs.Parts.{idle}
 use Rattle.party.specs.Driving.{is_active, nrfd_at, ndac_at, drives_nrfd, drives_ndac}
 use Rattle.party.specs.Sending.{is_source, is_polled, offer}
-use Rattle.parties.specs.Places.{place, other_talker}
+use Rattle.parties.specs.Places.{place}
 use Rattle.parties.proofs.Places.{some_none}
 use Rattle.effect.specs.Effects.{say}
 use Rattle.source_step.specs.SourceStep.{put, noacc, ready, ended, source_in}
@@ -27,9 +28,8 @@ use Rattle.bus.proofs.Putting.{nothing_stands}
 use Rattle.bus.proofs.Reached.{one_source_lem}
 use Rattle.bus.specs.declared.Bus.{Bus}
 use Rattle.bus.specs.declared.Answer.{Answer}
-use Rattle.bus.specs.Types.{Party, Source, Sids, Sgns, Sdys, Strs, Acceptor, Aids, Anrs, Acrs, Acds, Awns, Slot, Empty}
-use Rattle.bus.specs.Types.{Full, Kind, Command, Data, Status, Event, Standing, Nothing, Byte, Said, After, Effect}
-use Rattle.bus.specs.Types.{View}
+use Rattle.bus.specs.Types.{Party, Source, Sids, Sgns, Sdys, Strs, Acceptor, Aids, Anrs, Acrs, Awns}
+use Rattle.bus.specs.Types.{Byte, Kind, Command, Event, Standing, Said, After, Effect, View}
 use Rattle.bus.specs.Types.ev
 use Rattle.bus.specs.Types.after
 use Rattle.runner.specs.Runner.{step_of, steps}
@@ -40,30 +40,26 @@ use Rattle.turn_laws.proofs.Local.{local, touch_local, no_step, source_step_lem,
 -- who drives neither NRFD nor NDAC takes no part
 in_aids : (a : Acceptor) → nrfd_at a ≡ false → ndac_at a ≡ false → a ≡ Aids
 in_aids Aids r d = refl
-in_aids Anrs r d = no (cc)
-in_aids Acrs r d = no (cc)
-in_aids Acds r d = no (cc)
-in_aids Awns r d = no (cc)
+in_aids a r d = no (cc)
 
 -- an acceptor step says something else
 abbrev Else : Effect → Type 0
 Else x = x.said.event ≡ ev.Noacc → ⊥
 
 module _ (v : View) where
-  takes_else : (st : Standing) → Else (takes st v)
-  takes_else Nothing = λ h. no (cc)
-  takes_else (Byte s k x e) = cond-elim Else v.lines.atn
-      (λ _. hear_events (λ (y : Event). y ≡ ev.Noacc → ⊥) (λ h. no (cc)) (λ h. no (cc)) (λ h. no (cc)) (meaning_of x)
-      v.party.role.listen)
+  takes_else : (st : Option Standing) → Else (takes st v)
+  takes_else None = λ h. no (cc)
+  takes_else (Some st) = cond-elim Else v.lines.atn
+      (λ _. hear_events (λ (y : Event). y ≡ ev.Noacc → ⊥) (λ h. no (cc)) (λ h. no (cc)) (λ h. no (cc))
+      (meaning_of st.value) v.party.role.listen)
       (λ _ h. no (cc))
 
   acceptor_else : (a : Acceptor) → Else (acceptor_in a v)
-  acceptor_else Aids = λ h. no (cc)
-  acceptor_else Anrs = cond-elim Else (v.lines.atn || not (is_full v.party.input)) (λ _ h. no (cc))
+  acceptor_else Anrs = cond-elim Else (v.lines.atn || not (is_some v.party.input)) (λ _ h. no (cc))
       (λ _ h. no (cc))
   acceptor_else Acrs = cond-elim Else v.lines.dav (λ _. takes_else v.standing) (λ _ h. no (cc))
-  acceptor_else Acds = λ h. no (cc)
   acceptor_else Awns = cond-elim Else v.lines.dav (λ _ h. no (cc)) (λ _ h. no (cc))
+  acceptor_else a = λ h. no (cc)
 
 module _ (b : Bus) (I : Inv b) where
   -- a step that leaves its party as it was leaves the bus
@@ -74,7 +70,7 @@ module _ (b : Bus) (I : Inv b) where
     kind : Kind
     kind = kind_of (is_active (here b p)) (is_polled (atn_of b) (here b p))
 
-    none : b.standing ≡ Nothing
+    none : b.standing ≡ None
     none = nothing_stands b.count (atn_of b) (here b) b.standing I.pre (quiet b I) p A.source
         (λ h. let z = A.ready in no (cc))
 
@@ -123,42 +119,42 @@ module _ (b : Bus) (I : Inv b) where
     put_else : (k : Kind) (v : ℕ) (e : Bool) → Told (put k v e seen)
     unfolding Told
     put_else Command v e h = no (cc)
-    put_else Data v e h = no (cc)
-    put_else Status v e h = no (cc)
+    put_else k v e h = no (cc)
 
     -- whatever follows on the end of a byte
     over_else : (z : After) (v : ℕ) (e : Bool) (q : Party)
-        → Told (record { said = say ev.Ended v e 0; after = z; party = q; standing = Nothing })
+        → Told (record { said = say ev.Ended v e 0; after = z; party = q; standing = None })
     unfolding Told
     over_else after.Settle v e q h = no (cc)
-    over_else (after.Pass j) v e q h = no (cc)
-    over_else after.Attend v e q h = no (cc)
-    over_else after.Clear v e q h = no (cc)
-    over_else after.Poll v e q h = no (cc)
+    over_else z v e q h = no (cc)
 
-    ended_else : (st : Standing) → Told (ended st seen)
+    ended_else : (st : Option Standing) → Told (ended st seen)
     unfolding Told
-    ended_else Nothing = λ h. no (cc)
-    ended_else (Byte s k v e) = over_else (ended (Byte s k v e) seen).after v e (ended (Byte s k v e) seen).party
+    ended_else None = λ h. no (cc)
+    ended_else (Some st) = over_else (ended (Some st) seen).after st.value st.end (ended (Some st) seen).party
 
     module _ (so : is_source (atn_of b) (here b p) ≡ true) where
-      its_offer : Slot
+      its_offer : Option Byte
       its_offer = offer (is_polled (atn_of b) (here b p)) (here b p)
 
       its_kind : Kind
       its_kind = kind_of (is_active (here b p)) (is_polled (atn_of b) (here b p))
 
-      ready_alone : (here b p).source ≡ Sdys → (o : Slot) → its_offer ≡ o → Told (ready o its_kind seen)
+      ready_alone : (here b p).source ≡ Sdys → (o : Option Byte) → its_offer ≡ o → Told (ready o its_kind seen)
       unfolding Told its_offer
-      ready_alone ex Empty eo = λ h. no (cc)
-      ready_alone ex (Full v e) eo = cond-elim Told (lines b).nrfd (λ _ h. no (cc))
-          (λ nr. cond-elim Told (lines b).ndac (λ _. put_else its_kind v e)
-          (λ nd _. (v, e, record { there = l; source = so; ready = ex; offers = eo; quiet = nr; nobody = nd })))
+      ready_alone ex None eo = λ h. no (cc)
+      ready_alone ex (Some y) eo = cond-elim Told (lines b).nrfd (λ _ h. no (cc))
+          (λ nr. cond-elim Told (lines b).ndac (λ _. put_else its_kind y.value y.end)
+          (λ nd _. (
+            y.value,
+            y.end,
+            record { there = l; source = so; ready = ex; offers = eo; quiet = nr; nobody = nd },
+          )))
 
       by_state : (x : Source) → (here b p).source ≡ x → Told (source_in x its_offer its_kind seen)
       unfolding Told
       by_state Sids ex = λ h. no (cc)
-      by_state Sgns ex = cond-elim Told (is_full its_offer) (λ _ h. no (cc)) (λ _ h. no (cc))
+      by_state Sgns ex = cond-elim Told (is_some its_offer) (λ _ h. no (cc)) (λ _ h. no (cc))
       by_state Sdys ex = ready_alone ex its_offer refl
       by_state Strs ex = cond-elim Told (lines b).ndac (λ _ h. no (cc)) (λ _. ended_else b.standing)
 

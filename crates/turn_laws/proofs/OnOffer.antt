@@ -1,7 +1,7 @@
 -- A source that has said noacc stays in SDYS as long as its byte is on offer and nobody is there, whatever calls come.
 -- Assumes nothing.
 use mathlib.Core.Path.{◌≡◌, refl, sym, ap, ◌∙◌, subst}
-use mathlib.Core.Bool.{Bool, true, false, not, cond, ◌&&◌, ◌||◌}
+use mathlib.Core.Bool.{Bool, true, false, not, ◌&&◌}
 use mathlib.Core.List.{List, [], ◌∷◌}
 use Prim.Native.Nat.{ℕ, zero, suc, ◌+◌, ◌-◌, ◌≤◌, ◌<◌}
 use native.Mathlib.Omega.{arith}
@@ -10,25 +10,24 @@ use lib.ListN.{length, get_or, set, length-set}
 use lib.Seq.{get_or-set_same, get_or-set_other}
 use lib.Dec.{eqb}
 use borrow.Author.Tests.{eqb-true, eqb-false}
-use Rattle.offer.specs.Offer.{kind_of}
-use Rattle.role.proofs.Logic.{no, test, cond-elim, or_right}
+use Rattle.std.specs.Prelude.{Option, Some, None, Ok, Err}
+use Rattle.offer.specs.Offer.{kind_of, byte}
+use Rattle.role.proofs.Logic.{no, test, cond-elim}
 use Rattle.party.specs.Parts.{idle}
 use Rattle.party.specs.Driving.{is_active}
-use Rattle.party.specs.Sending.{is_source, is_polled, offer}
+use Rattle.party.specs.Sending.{is_source, is_polled}
 use Rattle.party.specs.Settling.{attended, settled, change_control, cleared, wiped}
 use Rattle.parties.specs.Places.{at, some, each}
 use Rattle.parties.proofs.Places.{each_below, length_each, set_part, some_at, some_each}
 use Rattle.effect.specs.Calls.{is_accepted, place_of}
 use Rattle.effect.specs.Effects.{with_standing}
-use Rattle.effect.specs.Stands.{sends}
 use Rattle.refusals.specs.Refusals.{in_standby, own}
 use Rattle.host_calls.specs.HostCalls.{read_out, reset_as}
 use Rattle.accepted.specs.Accepted.{effect_of}
 use Rattle.bus.specs.declared.Bus.{Bus}
 use Rattle.bus.specs.declared.Answer.{Answer}
-use Rattle.bus.specs.Types.{Place, Party, Control, Idle, Standby, Active, Source, Sids, Sdys, Slot, Empty, Full, Kind}
+use Rattle.bus.specs.Types.{Place, Party, Control, Standby, Active, Sdys, Byte, Kind}
 use Rattle.bus.specs.Types.{Command, Standing, Said, Outcome, Effect, Call, Act}
-use Rattle.bus.specs.Types.ev
 use Rattle.bus.specs.Types.ruling
 use Rattle.bus.specs.Types.call_of
 use Rattle.bus.specs.Types.act_of
@@ -36,13 +35,13 @@ use Rattle.bus.specs.Record.{here, lines, accept}
 use Rattle.bus.specs.Settling.{attend, settle, followed}
 use Rattle.bus.specs.Machine as m
 use Rattle.bus.specs.Delivery.{Moment, history, moment, bus_at, answer_at}
-use Rattle.bus.proofs.Invariant.{Inv, atn_of, busy, active_busy}
+use Rattle.bus.proofs.Invariant.{Inv, atn_of, active_busy}
 use Rattle.bus.proofs.Accepting.{known, if_so}
 use Rattle.bus.proofs.Reached.{source_not_sids}
 use Rattle.bus.proofs.EachCall.{call_good, linked}
-use Rattle.runner.specs.Runner.{step_of}
 use Rattle.runner.proofs.Led.{led_inv}
-use Rattle.turn_laws.specs.Turns.{Alone, kept, OnOffer, Unattended, SaysAgain}
+use Rattle.turn_laws.specs.Turns.{Alone, OnOffer, Unattended, SaysAgain}
+use Rattle.turn_laws.proofs.Local.{call_step}
 use Rattle.turn_laws.proofs.Noacc.{says, turn, only}
 
 no_polled : (t y : Bool) → (not t && false && y) ≡ false
@@ -59,9 +58,8 @@ not_command true h = no (cc)
 not_command false h = no (cc)
 
 standby_not_active : (c : Control) → in_standby c ≡ true → c ≡ Standby
-standby_not_active Idle h = no (cc)
 standby_not_active Standby h = refl
-standby_not_active Active h = no (cc)
+standby_not_active c h = no (cc)
 
 module _ (b : Bus) (I : Inv b) (p v : ℕ) (e : Bool) (k : Kind) (O : OnOffer b p v e k) (U : Unattended b)
     (S : (here b p).source ≡ Sdys) where
@@ -100,7 +98,7 @@ module _ (b : Bus) (I : Inv b) (p v : ℕ) (e : Bool) (k : Kind) (O : OnOffer b 
           (rw length-set fits)
 
   -- attention follows: what is on offer then is what party p has among ps
-  module _ (s : Said) (ps : List Party) (st : Standing) (len : length ps ≡ length b.parties) where
+  module _ (s : Said) (ps : List Party) (st : Option Standing) (len : length ps ≡ length b.parties) where
     abbrev t : Bool
     t = some b.count is_active ps
 
@@ -124,11 +122,11 @@ module _ (b : Bus) (I : Inv b) (p v : ℕ) (e : Bool) (k : Kind) (O : OnOffer b 
     still_kind P = sym (ap (λ (r : Party). kind_of (is_active r) (is_polled t r)) now_here)
         ∙ ap (λ (x : Bool). kind_of (is_active (here now p)) (is_polled x (here now p))) (sym now_atn) ∙ P.kind
 
-    pub still_offer : OnOffer now p v e k → is_polled t (at ps p) ≡ false → (at ps p).held ≡ Full v e
+    pub still_offer : OnOffer now p v e k → is_polled t (at ps p) ≡ false → (at ps p).held ≡ Some (byte v e)
     still_offer P h = sym (rw (now_atn, now_here, h) refl) ∙ P.offers
 
   -- the caller becomes active
-  take_stays : (i : ℕ) → i < b.count → (here b i).control ≡ Standby → (s : Said) (st : Standing)
+  take_stays : (i : ℕ) → i < b.count → (here b i).control ≡ Standby → (s : Said) (st : Option Standing)
       → Stays (attend b s (set b.parties i (change_control Active (here b i))) st)
   take_stays i l c s st _ P = absurd (test (eqb p i) (λ h. same (eqb-true p i h)) (λ h. other (eqb-false p i h)))
     where
@@ -157,7 +155,7 @@ module _ (b : Bus) (I : Inv b) (p v : ℕ) (e : Bool) (k : Kind) (O : OnOffer b 
 
   -- the caller stops being active
   leave_stays : (i : ℕ) → i < b.count → is_active (here b i) ≡ true → (q : Party) → is_active q ≡ false → (s : Said)
-      (st : Standing) → Stays (attend b s (set b.parties i q) st)
+      (st : Option Standing) → Stays (attend b s (set b.parties i q) st)
   leave_stays i l c q n s st _ P = absurd (test (eqb p i) (λ h. same (eqb-true p i h)) (λ h. other (eqb-false p i h)))
     where
       ps : List Party
@@ -179,7 +177,7 @@ module _ (b : Bus) (I : Inv b) (p v : ℕ) (e : Bool) (k : Kind) (O : OnOffer b 
           let y : is_source (atn_of b) (here b p) ≡ false = rw (a, h) refl in no (cc))
 
   -- interface clear
-  clear_stays : (i : ℕ) → i < b.count → (s : Said) (st : Standing) → Stays (attend b s
+  clear_stays : (i : ℕ) → i < b.count → (s : Said) (st : Option Standing) → Stays (attend b s
       (set (each b.count cleared b.parties) i (change_control Active (cleared (here b i)))) st)
   clear_stays i l s st _ P = absurd (test (eqb p i) (λ h. same (eqb-true p i h)) (λ h. other (eqb-false p i h)))
     where
@@ -200,7 +198,7 @@ module _ (b : Bus) (I : Inv b) (p v : ℕ) (e : Bool) (k : Kind) (O : OnOffer b 
           let a = get_or-set_same all i new idle
           (rw (length_each b.count cleared b.parties) (omega (arith, fits))) in
           let z = still_offer s ps st len P (rw (h, a) (no_polled (some b.count is_active ps) _)) in
-          let y : (at ps p).held ≡ Empty = rw (h, a) refl in no (cc)
+          let y : (at ps p).held ≡ None = rw (h, a) refl in no (cc)
 
       other : (p ≡ i → ⊥) → ⊥
       other ne =
@@ -209,75 +207,40 @@ module _ (b : Bus) (I : Inv b) (p v : ℕ) (e : Bool) (k : Kind) (O : OnOffer b 
           let y : is_source (some b.count is_active ps) (at ps p) ≡ false = rw a
           (no_talker (some b.count is_active ps)) in no (cc)
 
-  read_stays : (i : ℕ) (x : Slot) → let z = with_standing b.standing (read_out x (here b i)) in
+  read_stays : (i : ℕ) (x : Option Byte) → let z = with_standing b.standing (read_out x (here b i)) in
       Stays (followed z.after (atn_of b) b i z)
-  read_stays i Empty = settle_stays i (with_standing b.standing (read_out Empty (here b i))) refl
-  read_stays i (Full x y) = settle_stays i (with_standing b.standing (read_out (Full x y) (here b i))) refl
+  read_stays i None = settle_stays i (with_standing b.standing (read_out None (here b i))) refl
+  read_stays i (Some y) = settle_stays i (with_standing b.standing (read_out (Some y) (here b i))) refl
 
   abbrev does : Place → Act → Effect
   does i a = effect_of (m.view_at i (lines b) b) (call_of.Of i a)
 
-  -- an accepted call other than a step
-  host_stays : (i : Place) (a : Act) → is_accepted (own (m.view_at i (lines b) b) a) ≡ true → i.0 < b.count
-      → (a ≡ act_of.Step → ⊥) → Stays (m.accepted (lines b) b (call_of.Of i a))
-  host_stays i act_of.Step ok l n = absurd (n refl)
-  host_stays i (act_of.Write x y) ok l n = settle_stays i.0 (does i (act_of.Write x y)) refl
-  host_stays i act_of.Read ok l n = read_stays i.0 (here b i.0).input
-  host_stays i (act_of.PollRegister x) ok l n = settle_stays i.0 (does i (act_of.PollRegister x)) refl
-  host_stays i (act_of.ListenOnly on) ok l n = settle_stays i.0 (does i (act_of.ListenOnly on)) refl
-  host_stays i (act_of.TalkOnly on) ok l n = settle_stays i.0 (does i (act_of.TalkOnly on)) refl
-  host_stays i act_of.TakeControl ok l n = take_stays i.0 l (standby_not_active (here b i.0).control
-      (if_so (in_standby (here b i.0).control) ruling.Accepted ruling.Role refl ok).0)
+  -- an accepted call of a party that is there
+  party_stays : (i : Place) (a : Act) → is_accepted (own (m.view_at i (lines b) b) a) ≡ true → i.0 < b.count
+      → Stays (m.accepted (lines b) b (call_of.Of i a))
+  party_stays i act_of.Step ok l = λ _ _. ap (λ (a : Answer). (here a.bus p).source) (sym (call_step b I i.0 l))
+      ∙ ap (λ (x : Bus). (here x p).source) (turn b I p v e alone i.0) ∙ S
+  party_stays i act_of.Read ok l = read_stays i.0 (here b i.0).input
+  party_stays i act_of.TakeControl ok l = take_stays i.0 l (standby_not_active (here b i.0).control
+      (if_so (in_standby (here b i.0).control) (Ok tt) (Err ruling.Role) refl ok).0)
       (does i act_of.TakeControl).said b.standing
-  host_stays i act_of.GoToStandby ok l n = leave_stays i.0 l
-      (if_so (is_active (here b i.0)) _ ruling.Role refl ok).0 (change_control Standby (here b i.0)) refl
+  party_stays i act_of.GoToStandby ok l = leave_stays i.0 l
+      (if_so (is_active (here b i.0)) _ (Err ruling.Role) refl ok).0 (change_control Standby (here b i.0)) refl
       (does i act_of.GoToStandby).said b.standing
-  host_stays i act_of.InterfaceClear ok l n = clear_stays i.0 l (does i act_of.InterfaceClear).said b.standing
-  host_stays i act_of.Reset ok l n = cond-elim
+  party_stays i act_of.InterfaceClear ok l = clear_stays i.0 l (does i act_of.InterfaceClear).said b.standing
+  party_stays i act_of.Reset ok l = cond-elim
       (λ (o : Outcome). let z = with_standing b.standing o in Stays (followed z.after (atn_of b) b i.0 z))
       (is_active (here b i.0))
       (λ h. leave_stays i.0 l h (wiped (here b i.0)) refl (does i act_of.Reset).said b.standing)
       (λ h. settle_stays i.0 (with_standing b.standing (reset_as false (m.view_at i (lines b) b))) refl)
-  host_stays i act_of.Drop ok l n = settle_stays i.0 (does i act_of.Drop) refl
-  host_stays i (act_of.SecondRequest on) ok l n = settle_stays i.0 (does i (act_of.SecondRequest on)) refl
-  host_stays i (act_of.DataOut x) ok l n = settle_stays i.0 (does i (act_of.DataOut x)) refl
-  host_stays i act_of.MarkEnd ok l n = settle_stays i.0 (does i act_of.MarkEnd) refl
-  host_stays i act_of.BusStatus ok l n = settle_stays i.0 (does i act_of.BusStatus) refl
-  host_stays i act_of.DoNothing ok l n = settle_stays i.0 (does i act_of.DoNothing) refl
-  host_stays i act_of.NoRegister ok l n = settle_stays i.0 (does i act_of.NoRegister) refl
-  host_stays i (act_of.OwnStatus on) ok l n = settle_stays i.0 (does i (act_of.OwnStatus on)) refl
-  host_stays i act_of.ParallelPoll ok l n = settle_stays i.0 (does i act_of.BusStatus) refl
-
-  judged : (i : Place) (a : Act) → (a ≡ act_of.Step → ⊥) → Stays (m.call b (call_of.Of i a))
-  judged i a n = cond-elim Stays (is_accepted (m.refusal (lines b) b (call_of.Of i a)))
-      (λ ok. let h = known b i (own (m.view_at i (lines b) b) a) ok in host_stays i a h.1 h.0 n)
-      (λ _ _ _. S)
+  party_stays i a ok l = settle_stays i.0 (does i a) refl
 
   -- any call
   call_stays : (c : Call) → Stays (m.call b c)
-  call_stays (call_of.Of i act_of.Step) = λ _ _. ap (λ (x : Bus). (here x p).source) (turn b I p v e alone i.0) ∙ S
-  call_stays (call_of.Of i (act_of.Write x y)) = judged i (act_of.Write x y) (λ h. no (cc))
-  call_stays (call_of.Of i act_of.Read) = judged i act_of.Read (λ h. no (cc))
-  call_stays (call_of.Of i (act_of.PollRegister x)) = judged i (act_of.PollRegister x) (λ h. no (cc))
-  call_stays (call_of.Of i (act_of.ListenOnly on)) = judged i (act_of.ListenOnly on) (λ h. no (cc))
-  call_stays (call_of.Of i (act_of.TalkOnly on)) = judged i (act_of.TalkOnly on) (λ h. no (cc))
-  call_stays (call_of.Of i act_of.TakeControl) = judged i act_of.TakeControl (λ h. no (cc))
-  call_stays (call_of.Of i act_of.GoToStandby) = judged i act_of.GoToStandby (λ h. no (cc))
-  call_stays (call_of.Of i act_of.InterfaceClear) = judged i act_of.InterfaceClear (λ h. no (cc))
-  call_stays (call_of.Of i act_of.Reset) = judged i act_of.Reset (λ h. no (cc))
-  call_stays (call_of.Of i act_of.Drop) = judged i act_of.Drop (λ h. no (cc))
-  call_stays (call_of.Of i (act_of.SecondRequest on)) = judged i (act_of.SecondRequest on) (λ h. no (cc))
-  call_stays (call_of.Of i (act_of.DataOut x)) = judged i (act_of.DataOut x) (λ h. no (cc))
-  call_stays (call_of.Of i act_of.MarkEnd) = judged i act_of.MarkEnd (λ h. no (cc))
-  call_stays (call_of.Of i act_of.BusStatus) = judged i act_of.BusStatus (λ h. no (cc))
-  call_stays (call_of.Of i act_of.DoNothing) = judged i act_of.DoNothing (λ h. no (cc))
-  call_stays (call_of.Of i act_of.NoRegister) = judged i act_of.NoRegister (λ h. no (cc))
-  call_stays (call_of.Of i (act_of.OwnStatus on)) = judged i (act_of.OwnStatus on) (λ h. no (cc))
-  call_stays (call_of.Of i act_of.ParallelPoll) = judged i act_of.ParallelPoll (λ h. no (cc))
-  call_stays call_of.Lines = settle_stays 0 (effect_of (m.view_at (place_of call_of.Lines) (lines b) b) call_of.Lines)
-      refl
-  call_stays call_of.Drivers = settle_stays 0
-      (effect_of (m.view_at (place_of call_of.Drivers) (lines b) b) call_of.Drivers) refl
+  call_stays (call_of.Of i a) = cond-elim Stays (is_accepted (m.verdict (lines b) b (call_of.Of i a)))
+      (λ ok. let h = known b i (own (m.view_at i (lines b) b) a) ok in party_stays i a h.1 h.0)
+      (λ _ _ _. S)
+  call_stays c = settle_stays 0 (effect_of (m.view_at (place_of c) (lines b) b) c) refl
 
 -- every call of a list finds a bus that keeps the invariant, and has the machine's answer
 all_calls : (b : Bus) → Inv b → (cs : List Call) (d : Moment) (k : ℕ) → k < length cs

@@ -8,9 +8,8 @@ use Prim.Native.Nat.{ℕ, zero, suc, ◌<◌, ◌≤◌}
 use native.Mathlib.Omega.{arith}
 use lib.Dec.{ltb, eqb}
 use borrow.Author.Tests.{eqb-true, eqb-false, eq-eqb, ltb-true, ltb-false, lt-ltb}
+use Rattle.std.specs.Prelude.{Option, Some, None}
 use Rattle.role.proofs.Logic.{no, test, or_right}
-use Rattle.names.specs.declared.Secondary.{Secondary}
-use Rattle.names.specs.declared.Secondary.TheVariants.{Absent, Given}
 use Rattle.names.specs.Names.{meets}
 use Rattle.names.proofs.Clashes.{same_clash}
 use Rattle.bus.specs.declared.Bus.{Bus}
@@ -25,6 +24,7 @@ use Rattle.runner.proofs.InOrder.{order_member, order_chain, turns_order}
 use Rattle.runner.proofs.ByAddress.{address_orders}
 use Rattle.turn_laws.proofs.AsBefore.{turns_of_lem, is_before, comes_before, named_before}
 use Rattle.runner.proofs.Led.{led_inv}
+use Rattle.message.specs.declared.SecondaryAddress.{SecondaryAddress}
 
 -- lists, with another number for each place
 
@@ -67,10 +67,10 @@ chain_distinct R n O (x ∷ xs) l c = rw (
 ) refl
 
 -- on the buses there are no two parties have one name
-same_rank : (x y : Secondary) → rank x ≡ rank y → meets x y ≡ true
-same_rank Absent y e = refl
-same_rank (Given s) Absent e = refl
-same_rank (Given s) (Given t) e = eq-eqb s.0 t.0 (omega arith)
+same_rank : (x y : Option SecondaryAddress) → rank x ≡ rank y → meets x y ≡ true
+same_rank None y e = refl
+same_rank (Some s) None e = refl
+same_rank (Some s) (Some t) e = eq-eqb s.0 t.0 (omega arith)
 
 module _ (f g : ℕ → ℕ) (b c : Bus) (I : Inv b) (N : Renumbered f g b c) where
   names_differ : (x y : ℕ) → y < b.count → primary_at b x ≡ primary_at b y → secondary_at b x ≡ secondary_at b y → x < y

@@ -24,7 +24,7 @@ FirstRound = (b : Bus) → b.count ≤ 15 → (t i j : ℕ) → i < j → j < b.
 abbrev pub Numbered : Bus → Type 0
 Numbered b = (x y : ℕ) → x < y → y < b.count → IsBefore b x y
 
--- The turns, the answers to them, the refusal, the counts and the bus are those of ties to the lowest place, which Q-1
+-- The turns, the answers to them, the verdict, the counts and the bus are those of ties to the lowest place, which Q-1
 -- had.
 pub record AsByPlace (b : Bus) (t : ℕ) : Type 0 where
   pub turns : turns_of (by_address b) b t ≡ turns_of by_place b t

@@ -16,4 +16,4 @@ switch_after by q call_of.Drivers on = on
 -- What all calls of a list leave of it. A refused call changes nothing.
 abbrev pub told : (Act → Bool → Bool) → ℕ → List Moment → Bool → Bool
 told by q [] on = on
-told by q (x ∷ xs) on = told by q xs (cond (is_accepted x.answer.refusal) (switch_after by q x.call on) on)
+told by q (x ∷ xs) on = told by q xs (cond (is_accepted x.answer.verdict) (switch_after by q x.call on) on)

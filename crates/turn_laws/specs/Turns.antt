@@ -1,13 +1,13 @@
 -- Laws about turns: a name stays, and a byte with nobody to take it is kept (document 02, Q-2 and Q-3).
 -- Assumes nothing.
-use Rattle.std.specs.Prelude.{ℕ, ◌≤◌, ◌<◌, List, ◌≡◌, Bool, true, false, length, get_or}
+use Rattle.std.specs.Prelude.{ℕ, ◌≤◌, ◌<◌, List, ◌≡◌, Bool, true, false, length, get_or, Some}
 use Rattle.message.specs.Meaning.{address}
 use Rattle.names.specs.Names.{plain}
-use Rattle.offer.specs.Offer.{kind_of, end_of}
+use Rattle.offer.specs.Offer.{kind_of, end_of, byte}
 use Rattle.party.specs.Driving.{is_active}
 use Rattle.party.specs.Sending.{is_source, is_polled, offer}
 use Rattle.effect.specs.Effects.{say}
-use Rattle.bus.specs.Types.{Name, Sdys, Full, Kind, Call}
+use Rattle.bus.specs.Types.{Name, Sdys, Kind, Call}
 use Rattle.bus.specs.Record.{here, lines}
 use Rattle.bus.specs.Machine as m
 use Rattle.bus.specs.Delivery.{moment, bus_at, answer_at}
@@ -35,7 +35,7 @@ pub record Alone (b : Bus) (p v : ℕ) (e : Bool) : Type 0 where
   pub there : p < b.count
   pub source : is_source (lines b).atn (here b p) ≡ true
   pub ready : (here b p).source ≡ Sdys
-  pub offers : offer (is_polled (lines b).atn (here b p)) (here b p) ≡ Full v e
+  pub offers : offer (is_polled (lines b).atn (here b p)) (here b p) ≡ Some (byte v e)
   pub quiet : (lines b).nrfd ≡ false
   pub nobody : (lines b).ndac ≡ false
 
@@ -63,7 +63,7 @@ KeepsByte = (b : Bus) → LedTo b → Keeps b
 pub record OnOffer (b : Bus) (p v : ℕ) (e : Bool) (k : Kind) : Type 0 where
   pub there : p < b.count
   pub source : is_source (lines b).atn (here b p) ≡ true
-  pub offers : offer (is_polled (lines b).atn (here b p)) (here b p) ≡ Full v e
+  pub offers : offer (is_polled (lines b).atn (here b p)) (here b p) ≡ Some (byte v e)
   pub kind : kind_of (is_active (here b p)) (is_polled (lines b).atn (here b p)) ≡ k
 
 -- There is no acceptor: nobody drives NRFD or NDAC.
