@@ -5,7 +5,7 @@ ghost use Rattle.std.specs.Prelude.{◌≡◌, List, ℕ, ◌<◌, length, take}
 ghost use Rattle.io.specs.Counts.{IsPrefixLen};
 ghost use Rattle.run.specs.Run.{Printed};
 
-use run::ROOM;
+use run::{LONGEST, ROOM};
 
 // The descriptors of standard input and output.
 const STDIN: i32 = 0;
@@ -13,7 +13,7 @@ const STDIN: i32 = 0;
 const STDOUT: i32 = 1;
 
 // One byte more than a script may have.
-const READ: usize = 65533;
+const READ: usize = LONGEST + 1;
 
 // The text of an input of any length, of which the n bytes that were read are the front as far as the buffer goes.
 fn run_front(read: &[u8], n: usize, out: &mut [u8; ROOM]) -> usize
@@ -27,8 +27,8 @@ fn run_front(read: &[u8], n: usize, out: &mut [u8; ROOM]) -> usize
 }
 
 fn main() {
-    let mut read = [0u8; READ];
-    let mut out = [0u8; ROOM];
+    let mut read = [0; READ];
+    let mut out = [0; ROOM];
     let n = io::read_full(STDIN, &mut read);
     let k = run_front(&read, n, &mut out);
     io::write_all(STDOUT, &out[..k]);

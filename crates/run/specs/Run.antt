@@ -1,26 +1,23 @@
 -- A whole script: what each record is answered, and the text of the answers (document 01, "The bus script").
 -- Assumes nothing.
 use Rattle.std.specs.Prelude.{ℕ, ◌+◌, ◌*◌, ◌/◌, ◌<◌, ◌≤◌, ◌≡◌, cond, List, [], ◌∷◌, ◌++◌, ltb, length, drop}
+use Rattle.std.specs.Prelude.{Result, Ok, Err}
 use Rattle.effect.specs.declared.Refusal.TheVariants as ruling
 use Rattle.bus.specs.declared.Bus.{Bus}
 use Rattle.bus.specs.declared.Answer.{Answer}
 use Rattle.bus.specs.Record.{refuse, no_parties}
-use Rattle.reader.specs.declared.Next.{Next}
-use Rattle.reader.specs.declared.Next.TheVariants.{Record, Bad, End}
-use Rattle.reader.specs.Record.{records}
+use Rattle.reader.specs.Record.{Entry, records}
 use Rattle.text.specs.Text.{line_of}
-use Rattle.orders.specs.Orders.{order_of, obey}
-use Rattle.run.specs.declared.Ran.{Ran}
-use Rattle.run.specs.declared.Ran.TheVariants as ran
+use Rattle.orders.specs.Orders.{answer_to_record}
+use Rattle.run.specs.declared.NoRoom.{NoRoom}
 
 -- "A wrong mark or short tail prints its line with 10"
-unfoldable pub answer_to : Bus → Next → Answer
-answer_to b (Record op party value extra) = obey b (order_of op party value extra)
-answer_to b Bad = refuse ruling.Record b
-answer_to b End = refuse ruling.Record b
+unfoldable pub answer_to : Bus → Entry → Answer
+answer_to b (Ok r) = answer_to_record b r
+answer_to b (Err e) = refuse ruling.Record b
 
 -- A line for each record, numbered from n, on the bus that the one before it left.
-unfoldable pub text_from : Bus → ℕ → List Next → List ℕ
+unfoldable pub text_from : Bus → ℕ → List Entry → List ℕ
 text_from b n [] = []
 text_from b n (r ∷ rs) = line_of n (answer_to b r) ++ text_from (answer_to b r).bus (n + 1) rs
 
@@ -40,6 +37,6 @@ Printed s before after n = (n ≡ length (text_of s)) × (after ≡ text_of s ++
 
 -- Where the buffer has 34 bytes for each line the text is printed into it; where it has less there is no room, and it
 -- is unchanged.
-abbrev pub RanAs : List ℕ → List ℕ → List ℕ → Ran → Type 0
-RanAs s before after (ran.Wrote n) = (34 * line_count s ≤ length before) × Printed s before after n
-RanAs s before after ran.NoRoom = (length before < 34 * line_count s) × (after ≡ before)
+abbrev pub RanAs : List ℕ → List ℕ → List ℕ → Result ℕ NoRoom → Type 0
+RanAs s before after (Ok n) = (34 * line_count s ≤ length before) × Printed s before after n
+RanAs s before after (Err e) = (length before < 34 * line_count s) × (after ≡ before)

@@ -9,29 +9,25 @@ ghost use Rattle.run.specs.Run.{answer_to, text_from, text_of, line_count, Print
 
 use bus::{Answer, Bus};
 use effect::Refusal;
-use orders::{obey, order_of};
 use party::Place;
-use reader::Next;
+use reader::{BadRecord, Record};
 
 // The most bytes that a script may have.
-const LONGEST: usize = 65532;
+pub const LONGEST: usize = 65532;
 
-// 34 bytes for each line that a script can have.
-pub const ROOM: usize = 371348;
+// The most bytes of a line.
+const LINE: usize = 34;
+
+// That for each line that a script can have: a record is six bytes.
+pub const ROOM: usize = LINE * (LONGEST / 6);
 
 #[tactic(auto, unfolding(crate::specs::Run::answer_to))]
-fn answer_to(b: Bus, next: Next) -> Answer
+fn answer_to(b: Bus, next: Result<Record, BadRecord>) -> Answer
     ensures { result ≡ answer_to b next }
 {
     match next {
-        Next::Record {
-            op,
-            party,
-            value,
-            extra,
-        } => obey(b, order_of(op, party, value, extra)),
-        Next::Bad => b.refuse(Refusal::Record),
-        Next::End => b.refuse(Refusal::Record),
+        Ok(record) => orders::answer_to_record(b, record),
+        Err(BadRecord) => b.refuse(Refusal::Record),
     }
 }
 
@@ -42,19 +38,12 @@ fn run_all(script: &[u8], out: &mut [u8]) -> usize
     ensures { Wrote out.old 0 (text_from no_parties 1 (records script.now))
         out.new result }
 {
-    let none = Bus::build(b"", Place(0));
-    let mut bus = none.bus;
-    let mut at = 0;
-    let mut n = 1;
+    let mut bus = Bus::build(b"", Place(0)).bus;
     let mut place = 0;
-    while at < script.len() {
-        let taken = reader::take_at(script, at);
-        let next = taken.next;
+    for (i, next) in reader::start(script, 0).enumerate() {
         let a = answer_to(bus, next);
-        place = text::put_line(n, a, out, place);
+        place = text::put_line(i + 1, a, out, place);
         bus = a.bus;
-        at = taken.at;
-        n += 1;
     }
     place
 }
@@ -67,7 +56,7 @@ fn line_count(script: &[u8]) -> usize
     if LONGEST < script.len() {
         return 1;
     }
-    (script.len() + 5) / 6
+    script.len().div_ceil(6)
 }
 
 // The text of a script, at the start of out.
@@ -82,22 +71,19 @@ fn put_text(script: &[u8], out: &mut [u8]) -> usize
     run_all(script, out)
 }
 
+// The buffer has less than 34 bytes for each line that the script can have.
 #[derive(Clone, Copy)]
-pub enum Ran {
-    // The number of bytes written.
-    Wrote(usize),
-    NoRoom,
-}
+pub struct NoRoom;
 
-// Runs a script and writes its text at the start of out. A line has at most 34 bytes: where out has less than that for
-// each line, and only there, it answers NoRoom and writes nothing.
-pub fn run(script: &[u8], out: &mut [u8]) -> Ran
+// Runs a script and writes its text at the start of out; the number of bytes written. A line has at most 34 bytes:
+// where out has less than that for each line, and only there, it answers NoRoom and writes nothing.
+pub fn run(script: &[u8], out: &mut [u8]) -> Result<usize, NoRoom>
     ensures { RanAs script.now out.old out.new result }
 {
-    if out.len() / 34 < line_count(script) {
-        return Ran::NoRoom;
+    if out.len() / LINE < line_count(script) {
+        return Err(NoRoom);
     }
-    Ran::Wrote(put_text(script, out))
+    Ok(put_text(script, out))
 }
 
 // The same where out has room for the text of any script: 34 bytes for each of 10,922 lines.

@@ -13,10 +13,11 @@ use Rattle.event.specs.declared.Event.TheVariants as E
 use Rattle.event.specs.Words.{codes, word_text, has_byte}
 use Rattle.party.specs.Parts.{one}
 use Rattle.bus.specs.declared.Answer.{Answer}
-use Rattle.effect.specs.declared.Refusal.{Refusal}
 use Rattle.effect.specs.declared.Refusal.TheVariants as R
-use Rattle.effect.specs.Calls.{refusal_number}
+use Rattle.effect.specs.Calls.{verdict_number}
 use Rattle.text.specs.Text.{digit_of, decimal_of, number_text, byte_text, head_text, event_text, counts_text, line_of}
+use Rattle.effect.specs.Types.{Verdict}
+use Rattle.std.specs.Prelude.{Ok, Err}
 
 at_most_five : (a b c d e : ℕ) (p q r s : Bool)
     → length (cond p (a ∷ [])
@@ -36,20 +37,20 @@ number_length : (n k : ℕ) → length (number_text n k) ≡ length (decimal_of 
 unfolding number_text
 number_length n k = length-append (decimal_of n) (k ∷ [])
 
-refusal_length : (r : Refusal) → length (decimal_of (refusal_number r)) ≤ 2
+verdict_length : (v : Verdict) → length (decimal_of (verdict_number v)) ≤ 2
 unfolding decimal_of
-refusal_length R.Accepted = lit≤ tt
-refusal_length R.NoParty = lit≤ tt
-refusal_length R.BadBuild = lit≤ tt
-refusal_length R.BadValue = lit≤ tt
-refusal_length R.Role = lit≤ tt
-refusal_length R.Attention = lit≤ tt
-refusal_length R.Talker = lit≤ tt
-refusal_length R.Standing = lit≤ tt
-refusal_length R.Full = lit≤ tt
-refusal_length R.Empty = lit≤ tt
-refusal_length R.Record = lit≤ tt
-refusal_length R.NoReg = lit≤ tt
+verdict_length (Ok x) = lit≤ tt
+verdict_length (Err R.NoParty) = lit≤ tt
+verdict_length (Err R.BadBuild) = lit≤ tt
+verdict_length (Err R.BadValue) = lit≤ tt
+verdict_length (Err R.Role) = lit≤ tt
+verdict_length (Err R.Attention) = lit≤ tt
+verdict_length (Err R.Talker) = lit≤ tt
+verdict_length (Err R.Standing) = lit≤ tt
+verdict_length (Err R.Full) = lit≤ tt
+verdict_length (Err R.Empty) = lit≤ tt
+verdict_length (Err R.Record) = lit≤ tt
+verdict_length (Err R.NoReg) = lit≤ tt
 
 end_length : (b : Bool) → length (decimal_of (one b)) ≤ 1
 unfolding decimal_of
@@ -78,15 +79,15 @@ unfolding byte_text
 byte_length true b = lit≤ tt
 byte_length false b = lit≤ tt
 
-head_length : (n : ℕ) (r : Refusal) → length (head_text n r) ≤ 9
+head_length : (n : ℕ) (v : Verdict) → length (head_text n v) ≤ 9
 unfolding head_text
-head_length n r = omega (
+head_length n v = omega (
   arith,
-  length-append (number_text n 32) (number_text (refusal_number r) 32),
+  length-append (number_text n 32) (number_text (verdict_number v) 32),
   number_length n 32,
-  number_length (refusal_number r) 32,
+  number_length (verdict_number v) 32,
   decimal_length n,
-  refusal_length r,
+  verdict_length v,
 )
 
 event_length : (e : Event) (b : ℕ) → length (event_text e b) ≤ 11
@@ -119,10 +120,10 @@ unfolding line_of
 line_length n a =
     omega (
       arith,
-      length-append (head_text n a.refusal ++ event_text a.event a.byte)
+      length-append (head_text n a.verdict ++ event_text a.event a.byte)
           (counts_text a.end a.dropped a.broken),
-      length-append (head_text n a.refusal) (event_text a.event a.byte),
-      head_length n a.refusal,
+      length-append (head_text n a.verdict) (event_text a.event a.byte),
+      head_length n a.verdict,
       event_length a.event a.byte,
       counts_length a.end a.dropped a.broken,
     )

@@ -7,8 +7,8 @@ use Rattle.std.proofs.lemmas.List.Edits.{sets}
 use Rattle.event.specs.declared.Event.{Event}
 use Rattle.event.specs.Words.{word_text, has_byte}
 use Rattle.party.specs.Parts.{one}
-use Rattle.effect.specs.declared.Refusal.{Refusal}
-use Rattle.effect.specs.Calls.{refusal_number}
+use Rattle.effect.specs.Types.{Verdict}
+use Rattle.effect.specs.Calls.{verdict_number}
 use Rattle.bus.specs.declared.Answer.{Answer}
 
 -- What writing a text at a place does: after is before with the text stored from that place on, and r is the place
@@ -52,9 +52,9 @@ hex_text b = hex_of (b / 16 % 16) ∷ hex_of (b % 16) ∷ 32 ∷ []
 unfoldable pub byte_text : Bool → ℕ → List ℕ
 byte_text has b = cond has (hex_text b) (45 ∷ 45 ∷ 32 ∷ [])
 
--- The number of the record and that of the refusal.
-unfoldable pub head_text : ℕ → Refusal → List ℕ
-head_text n r = number_text n 32 ++ number_text (refusal_number r) 32
+-- The number of the record and that of the refusal, 0 for none.
+unfoldable pub head_text : ℕ → Verdict → List ℕ
+head_text n v = number_text n 32 ++ number_text (verdict_number v) 32
 
 -- The event and its byte.
 unfoldable pub event_text : Event → ℕ → List ℕ
@@ -66,4 +66,4 @@ counts_text end dropped broken = number_text (one end) 32 ++ number_text dropped
 
 -- The line of record n.
 unfoldable pub line_of : ℕ → Answer → List ℕ
-line_of n a = head_text n a.refusal ++ event_text a.event a.byte ++ counts_text a.end a.dropped a.broken
+line_of n a = head_text n a.verdict ++ event_text a.event a.byte ++ counts_text a.end a.dropped a.broken

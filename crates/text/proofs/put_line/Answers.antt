@@ -3,4 +3,4 @@ use Rattle.text.proofs.Lengths.{line_length}
 use Rattle.text.proofs.put_line.Goals as goal
 
 pub put_parts-requires : goal.put_parts-requires
-put_parts-requires c = omega (arith, line_length c.args.n c.args.a)
+put_parts-requires c = record { fits = omega (arith, line_length c.args.n c.args.a) }
