@@ -6,9 +6,11 @@ use mathlib.Core.Bool.{Bool, true, false, cond}
 use mathlib.Core.List.{List, [], ◌∷◌}
 use lib.ListN.{length, length-set}
 use lib.Dec.{eqb}
+use Rattle.std.specs.Prelude.{Result, Ok, Err}
+use Rattle.std.specs.List.{range_with_len}
+use Rattle.effect.specs.declared.Refusal.{Refusal}
 use Rattle.names.specs.declared.Name.{Name}
 use Rattle.party.specs.declared.Place.{Place}
-use Rattle.parties.specs.Places.{other_talker}
 use Rattle.parties.proofs.Places.{length_each}
 use Rattle.effect.specs.declared.Call.{Call}
 use Rattle.effect.specs.declared.Call.TheVariants as call_of
@@ -20,14 +22,15 @@ use Rattle.effect.specs.Calls.{is_accepted, place_of}
 use Rattle.accepted.specs.Accepted.{effect_of}
 use Rattle.bus.specs.declared.Bus.{Bus}
 use Rattle.bus.specs.declared.Answer.{Answer}
-use Rattle.bus.specs.Record.{here, lines, built, no_parties, refuse, accept, build_extended}
+use Rattle.bus.specs.Record.{lines, built, no_parties, refuse, silent, accept, build_extended}
 use Rattle.addresses.specs.Addresses.{names, placed, bad_build}
 use Rattle.bus.specs.Settling.{followed}
 use Rattle.bus.specs.Drivers.{drivers}
-use Rattle.bus.specs.Machine.{view_at, call, refusal, accepted, run}
+use Rattle.bus.specs.Machine.{view_at, call, verdict, accepted, run}
 use Rattle.runner.specs.Waiting.{TieOrder}
 use Rattle.runner.specs.Runner.{steps, turns_of, give_turns}
-use Rattle.orders.specs.Orders.{order_of, obey, build_from, count_up}
+use Rattle.reader.specs.Record.{record_of}
+use Rattle.orders.specs.Orders.{order_of, obey, build_from, answer_to_order, answer_to_record}
 use Rattle.orders.specs.declared.Order.{Order}
 use Rattle.orders.specs.declared.Order.TheVariants as order
 use Rattle.meskvorn.specs.Host.{answer_by_number}
@@ -62,7 +65,7 @@ call_size b c h =
     let l = lines b in
     let i = (place_of c).0 in
     let e = effect_of (view_at (place_of c) l b) c in
-    either (is_accepted (refusal l b c)) (accepted l b c) (refuse (refusal l b c) b)
+    either (is_accepted (verdict l b c)) (accepted l b c) (silent (verdict l b c) b)
     (followed_size e.after l.atn b i e h) h
 
 pub drivers_size : (b : Bus) → Full b → Full (drivers b).answer.bus
@@ -75,13 +78,14 @@ run_size b (c ∷ cs) h = run_size (call b c).bus cs (call_size b c h)
 pub turns_size : (tie : TieOrder) (b : Bus) (t : ℕ) → Full b → Full (give_turns tie b t).bus
 turns_size tie b t h = run_size b (steps (turns_of tie b t)) h
 
-obey_size : (b : Bus) (o : Order) → Full b → Full (obey b o).bus
+answered_size : (b : Bus) (o : Result Order Refusal) → Full b → Full (answer_to_order b o).bus
 unfolding obey build_from
-obey_size b (order.Build s n first) h = build_size (names (count_up n first) []) s
-obey_size b (order.Call c) h = call_size b c h
-obey_size b order.Unknown h = h
+answered_size b (Ok (order.Build s n first)) h = build_size (names (range_with_len first n) []) s
+answered_size b (Ok (order.Call c)) h = call_size b c h
+answered_size b (Err e) h = h
 
 pub answer_size : (b : Bus) (op party value extra : ℕ) → Full b → Full (answer_by_number b op party value extra).bus
-unfolding answer_by_number
-answer_size b op party value extra h = either (eqb op 0) (refuse ruling.BadValue b)
-    (obey b (order_of op party value extra)) h (obey_size b (order_of op party value extra) h)
+unfolding answer_by_number answer_to_record
+answer_size b op party value extra h =
+    let o = order_of (record_of op party value extra) in
+    either (eqb op 0) (refuse ruling.BadValue b) (answer_to_order b o) h (answered_size b o h)

@@ -16,10 +16,10 @@ use Rattle.effect.specs.declared.Act.TheVariants as act_of
 use Rattle.bus.specs.Machine.{accessed}
 use Rattle.bus.specs.Machine as m
 use Rattle.parties.specs.Places.{place}
-use Rattle.effect.specs.Calls.{refusal_number}
+use Rattle.effect.specs.Calls.{verdict_number}
 use Rattle.image.specs.Image.{rows_of, bus_of}
 use Rattle.meskvorn.specs.Packing.{packed}
-use Rattle.meskvorn.specs.Host.{answer_by_number, turns_given, Replied, Built, Gave, mask_list, count_list, Counted}
+use Rattle.meskvorn.specs.Host.{answer_by_number, turns_given, Replied, Built, Gave, line_list, Counted}
 
 -- An operation by the four numbers that meskvorn_call takes (operation, party, value, extra), an access to a register
 -- of a party, a party's own status, or a parallel poll by one.
@@ -58,10 +58,10 @@ after_asked b (drivers_of_lines ∷ xs) = after_asked (drivers b).answer.bus xs
 abbrev pub replies : Bus → List Asked → List Reply
 replies b [] = []
 replies b (call o ∷ xs) = answer (packed (answer_of b o)) ∷ replies (answer_of b o).bus xs
-replies b (run t ∷ xs) = turns (refusal_number (turns_given b t).refusal) (turns_given b t).counts
+replies b (run t ∷ xs) = turns (verdict_number (turns_given b t).verdict) (turns_given b t).counts
     ∷ replies (turns_given b t).bus xs
-replies b (drivers_of_lines ∷ xs) = driven (packed (drivers b).answer) (mask_list (drivers b).masks)
-    (count_list (drivers b).counts) ∷ replies (drivers b).answer.bus xs
+replies b (drivers_of_lines ∷ xs) = driven (packed (drivers b).answer) (line_list (drivers b).masks)
+    (line_list (drivers b).counts) ∷ replies (drivers b).answer.bus xs
 
 -- A host asked for these, one by one, beginning with these rows; it was given these replies, and has the last rows.
 -- Nothing is known of each but what the exported functions ensure.

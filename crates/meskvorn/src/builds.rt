@@ -7,21 +7,26 @@ ghost use Rattle.image.specs.Image.{bus_of};
 ghost use Rattle.meskvorn.specs.Host.{Built, name_number};
 
 use crate::packing::{packed, packed_name};
-use bus::Bus;
+use bus::{Answer, Bus};
 use image::reading::bus_of;
 use image::writing::rows_of;
 use parties::every::at;
 use party::Place;
 use refusals::is_inside;
 
+// The answer's number, and to the rows its bus.
+fn hand_over(bus: &mut [[u8; 24]; 16], a: Answer) -> u64
+    ensures { Built a bus.new result }
+{
+    *bus = rows_of(a.bus);
+    packed(a)
+}
+
 // A build of parties without secondaries. What the rows held before does not matter.
 pub fn meskvorn_build(bus: &mut [[u8; 24]; 16], addresses: &[u8], system: u8) -> u64
     ensures { Built (build addresses.now (place system)) bus.new result }
 {
-    let a = Bus::build(addresses, Place(system));
-    let fresh = a.bus;
-    *bus = rows_of(fresh);
-    packed(a)
+    hand_over(bus, Bus::build(addresses, Place(system)))
 }
 
 // The same with the parties' secondaries, 255 where a party has none. The list is empty, or as long as the addresses.
@@ -34,24 +39,20 @@ pub fn meskvorn_build_extended(
     ensures { Built (build_extended (names_of addresses.now secondaries.now) (place system))
         bus.new result }
 {
-    let a = Bus::build_extended(addresses, secondaries, Place(system));
-    let made = a.bus;
-    *bus = rows_of(made);
-    packed(a)
+    hand_over(
+        bus,
+        Bus::build_extended(addresses, secondaries, Place(system)),
+    )
 }
 
-// The name of the party at a place, as a number; the largest of 16 bits where there is no party.
+// The name of the party at a place, as a number for C; the largest of 16 bits where there is no party.
 fn name_number(b: Bus, p: Place) -> u16
     ensures { result ≡ name_number b p.0 }
 {
-    let ps = b.parties;
-    let q = at(ps, p);
-    let role = q.role;
-    let name = role.name;
     if is_inside(p, b.count) {
-        packed_name(name)
+        packed_name(at(b.parties, p).role.name)
     } else {
-        65535
+        u16::MAX
     }
 }
 
@@ -59,6 +60,5 @@ fn name_number(b: Bus, p: Place) -> u16
 pub fn meskvorn_name(bus: &[[u8; 24]; 16], party: u8) -> u16
     ensures { result ≡ name_number (bus_of bus.now) party }
 {
-    let rows = *bus;
-    name_number(bus_of(rows), Place(party))
+    name_number(bus_of(*bus), Place(party))
 }

@@ -4,6 +4,7 @@ ghost use Rattle.meskvorn.specs.Host.{answer_by_number};
 
 use bus::{Answer, Bus};
 use effect::Refusal;
+use reader::Record;
 
 // Any operation other than build.
 #[tactic(auto, unfolding(crate::specs::Host::answer_by_number))]
@@ -13,5 +14,13 @@ pub fn answer_by_number(b: Bus, op: u8, party: u8, value: u8, extra: u8) -> Answ
     if op == 0 {
         return b.refuse(Refusal::BadValue);
     }
-    orders::obey(b, orders::order_of(op, party, value, extra))
+    orders::answer_to_record(
+        b,
+        Record {
+            op,
+            party,
+            value,
+            extra,
+        },
+    )
 }

@@ -19,11 +19,8 @@ use party::Place;
 fn reply(bus: &mut [[u8; 24]; 16], a: Answer) -> u64
     ensures { Replied a bus.old bus.new result }
 {
-    let refusal = a.refusal;
-    if refusal.is_accepted() {
-        let next = a.bus;
-        *bus = rows_of(next);
-        return packed(a);
+    if a.verdict.is_ok() {
+        *bus = rows_of(a.bus);
     }
     packed(a)
 }
@@ -33,9 +30,7 @@ pub fn meskvorn_call(bus: &mut [[u8; 24]; 16], op: u8, party: u8, value: u8, ext
     ensures { Replied (answer_by_number (bus_of bus.old) op party value extra)
         bus.old bus.new result }
 {
-    let rows = *bus;
-    let a = answer_by_number(bus_of(rows), op, party, value, extra);
-    reply(bus, a)
+    reply(bus, answer_by_number(bus_of(*bus), op, party, value, extra))
 }
 
 // What a party's register at an offset holds.
@@ -43,9 +38,7 @@ pub fn meskvorn_read_register(bus: &mut [[u8; 24]; 16], party: u8, offset: u8) -
     ensures { Replied (accessed (bus_of bus.old) (place party) (access.Read offset))
         bus.old bus.new result }
 {
-    let rows = *bus;
-    let a = bus_of(rows).read_register(Place(party), offset);
-    reply(bus, a)
+    reply(bus, bus_of(*bus).read_register(Place(party), offset))
 }
 
 // A value for a party's register at an offset.
@@ -53,9 +46,10 @@ pub fn meskvorn_write_register(bus: &mut [[u8; 24]; 16], party: u8, offset: u8, 
     ensures { Replied (accessed (bus_of bus.old) (place party) (access.Write offset value))
         bus.old bus.new result }
 {
-    let rows = *bus;
-    let a = bus_of(rows).write_register(Place(party), offset, value);
-    reply(bus, a)
+    reply(
+        bus,
+        bus_of(*bus).write_register(Place(party), offset, value),
+    )
 }
 
 // A party's own status, 0 or 1.
@@ -63,9 +57,7 @@ pub fn meskvorn_own_status(bus: &mut [[u8; 24]; 16], party: u8, value: u8) -> u6
     ensures { Replied (call (bus_of bus.old) (call_of.Of (place party) (act_of.OwnStatus value)))
         bus.old bus.new result }
 {
-    let rows = *bus;
-    let a = bus_of(rows).own_status(Place(party), value);
-    reply(bus, a)
+    reply(bus, bus_of(*bus).own_status(Place(party), value))
 }
 
 // A parallel poll by a party.
@@ -73,7 +65,5 @@ pub fn meskvorn_parallel_poll(bus: &mut [[u8; 24]; 16], party: u8) -> u64
     ensures { Replied (call (bus_of bus.old) (call_of.Of (place party) act_of.ParallelPoll))
         bus.old bus.new result }
 {
-    let rows = *bus;
-    let a = bus_of(rows).parallel_poll(Place(party));
-    reply(bus, a)
+    reply(bus, bus_of(*bus).parallel_poll(Place(party)))
 }

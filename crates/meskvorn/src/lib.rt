@@ -4,7 +4,7 @@
 ghost use Rattle.std.specs.Prelude.{◌≡◌};
 ghost use Rattle.meskvorn.specs.Host.{count_of, RanTo};
 
-use run::Ran;
+use run::NoRoom;
 
 pub mod builds;
 pub mod calls;
@@ -13,13 +13,13 @@ pub mod host;
 pub mod packing;
 pub mod turns;
 
-// The number of bytes written; the largest number where there was no room.
-fn count_of(r: Ran) -> usize
+// The number of bytes written; the largest number where there was no room, which C has no Result to say by.
+fn count_of(r: Result<usize, NoRoom>) -> usize
     ensures { result ≡ count_of r }
 {
     match r {
-        Ran::Wrote(n) => n,
-        Ran::NoRoom => 18446744073709551615,
+        Ok(n) => n,
+        Err(NoRoom) => usize::MAX,
     }
 }
 

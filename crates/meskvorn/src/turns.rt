@@ -2,6 +2,7 @@
 ghost use Rattle.image.specs.Image.{bus_of};
 ghost use Rattle.meskvorn.specs.Host.{turns_given, Gave};
 
+use effect::calls::verdict_number;
 use image::reading::bus_of;
 use image::writing::rows_of;
 use runner::{Given, give_turns};
@@ -10,15 +11,13 @@ use runner::{Given, give_turns};
 fn hand_over(bus: &mut [[u8; 24]; 16], counts: &mut [u16; 15], given: Given) -> u8
     ensures { Gave given bus.old bus.new counts.new result }
 {
-    let refusal = given.refusal;
+    // Read first: stored straight from its field, the borrow checker stops a wrong program before its proof does.
     let had = given.counts;
     *counts = had;
-    if refusal.is_accepted() {
-        let next = given.bus;
-        *bus = rows_of(next);
-        return refusal.number();
+    if given.verdict.is_ok() {
+        *bus = rows_of(given.bus);
     }
-    refusal.number()
+    verdict_number(given.verdict)
 }
 
 // So many turns on the bus that the rows hold, each to the party that has waited longest, ties by address. Gives the
@@ -27,7 +26,5 @@ pub fn meskvorn_turns(bus: &mut [[u8; 24]; 16], turns: u16, counts: &mut [u16; 1
     ensures { Gave (turns_given (bus_of bus.old) turns)
         bus.old bus.new counts.new result }
 {
-    let rows = *bus;
-    let before = bus_of(rows);
-    hand_over(bus, counts, give_turns(before, turns))
+    hand_over(bus, counts, give_turns(bus_of(*bus), turns))
 }

@@ -11,7 +11,7 @@ ghost use Rattle.image.specs.Image.{bus_of};
 ghost use Rattle.meskvorn.specs.Host.{Built, name_number};
 ghost use Rattle.meskvorn.specs.Host.{answer_by_number, Replied};
 ghost use Rattle.meskvorn.specs.Host.{count_of, RanTo};
-ghost use Rattle.meskvorn.specs.Host.{mask_list, count_list, Counted};
+ghost use Rattle.meskvorn.specs.Host.{Counted};
 ghost use Rattle.meskvorn.specs.Host.{turns_given, Gave};
 ghost use Rattle.parties.specs.Places.{place};
 ghost use Rattle.registers.specs.declared.Access.TheVariants as access;
