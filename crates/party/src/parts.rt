@@ -1,9 +1,9 @@
 // A party with one part changed: a function for each part, as the definitions have them.
 ghost use Rattle.std.specs.Prelude.{◌≡◌};
-ghost use Rattle.party.specs.Parts.{with_role, with_source, with_acceptor, with_held, with_input};
+ghost use Rattle.party.specs.Parts.{with_role, with_control, with_source, with_acceptor, with_held, with_input};
 ghost use Rattle.party.specs.Parts.{with_request, with_latches};
 
-use crate::{Acceptor, Latches, Party, Source};
+use crate::{Acceptor, Control, Latches, Party, Source};
 use offer::Byte;
 use role::Role;
 use service::Request;
@@ -13,6 +13,12 @@ impl Party {
         ensures { result ≡ with_role role self }
     {
         Party { role, ..self }
+    }
+
+    pub fn with_control(self, control: Control) -> Party
+        ensures { result ≡ with_control control self }
+    {
+        Party { control, ..self }
     }
 
     pub fn with_source(self, source: Source) -> Party

@@ -9,10 +9,7 @@ use lib.ListN.{length, drop, replicate}
 use Rattle.std.specs.Prelude.{Option, Some, None}
 use Rattle.reader.specs.Record.{Entry, record_at, after_at, records}
 use Rattle.reader.specs.Handing.{handed, until_end, HandsOut}
-use Rattle.reader.proofs.Records.{Gives, turn}
-
-no : {A : Type 0} → ◌≡◌ {A = ℕ} 0 1 → A
-no e = absurd (omega arith)
+use Rattle.reader.proofs.Records.{no, Gives, turn}
 
 gives_none : (l l' : List Entry) (o : Option Entry) → Gives l l' o → l ≡ [] → (o ≡ None) × (l' ≡ [])
 gives_none l l' None g e = (refl, g.1)

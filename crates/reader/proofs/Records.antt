@@ -11,8 +11,12 @@ use lib.Dec.{ltb, eqb, lit≤}
 use lib.ListN.{length, drop, get_or, length-drop, drop_of_length-le}
 use lib.Seq.{drop-cons, drop-length}
 use borrow.Author.Tests.{ltb-true, ltb-false}
-use Rattle.std.specs.Prelude.{Option, Some, None, MatchOption}
+use Rattle.std.specs.Prelude.{Option, Some, None, Ok, Err, MatchOption}
+use Rattle.reader.specs.declared.Record.{Record}
 use Rattle.reader.specs.Record.{Entry, good, bad, record_at, after_of, after_at, records}
+
+pub no : {A : Type 0} → ◌≡◌ {A = ℕ} 0 1 → A
+no e = absurd (omega arith)
 
 -- fewer than 6 bytes are one bad record
 short : (l : List ℕ) → 0 < length l → length l < 6 → records l ≡ bad ∷ []
@@ -60,6 +64,39 @@ six s at h =
       one s
           at 5 (omega arith),
     )
+
+by_length : (s : List ℕ) (at : ℕ) (r : Record) (p q : Bool) → ltb at (length s) ≡ p → ltb (length s - at) 6 ≡ q
+    → record_at s at ≡ Some (Ok r) → at + 6 ≤ length s
+unfolding record_at
+by_length s at r false q f g e = no (cc)
+by_length s at r true true f g e = no (cc)
+by_length s at r true false f g e =
+    let h : at < length s = ltb-true _ _ f in
+    let k : 6 ≤ length s - at = ltb-false _ _ g in
+    omega arith
+
+-- a record is 6 bytes, and they are all there
+pub all_there : (s : List ℕ) (at : ℕ) (r : Record) → record_at s at ≡ Some (Ok r) → at + 6 ≤ length s
+all_there s at r e = by_length s at r _ _ refl refl e
+
+-- the place after what stands at a place
+pub record Moves (s : List ℕ) (at to : ℕ) : Type 0 where
+  pub further : at < to
+  pub within : to ≤ length s
+  pub fewer : (length s - to + 5) / 6 + 1 ≤ (length s - at + 5) / 6
+
+moves : (s : List ℕ) (at : ℕ) (o : Option Entry) → record_at s at ≡ o → at < length s
+    → Moves s at (after_of o at (length s))
+moves s at (Some (Ok r)) e h =
+    let six_more : at + 6 ≤ length s = all_there s at r e in
+    record { further = omega arith; within = six_more; fewer = omega arith }
+moves s at (Some (Err b)) e h = record { further = h; within = omega arith; fewer = omega arith }
+moves s at None e h = record { further = h; within = omega arith; fewer = omega arith }
+
+-- before its end a reader moves on, and not past the end: what a caller of `take_at` goes by
+pub moves_on : (s : List ℕ) (at : ℕ) → at < length s → Moves s at (after_at s at)
+unfolding after_at
+moves_on s at h = moves s at (record_at s at) refl h
 
 -- what is handed out where l is left, and then l'
 abbrev pub Gives : List Entry → List Entry → Option Entry → Type 0

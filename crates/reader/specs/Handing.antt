@@ -3,7 +3,7 @@
 use Rattle.std.specs.Prelude.{ℕ, zero, suc, ◌+◌, ◌<◌, ◌≡◌, List, [], ◌∷◌, ◌++◌, length, drop, map, replicate}
 use Rattle.std.specs.Prelude.{Option, Some, None}
 use Rattle.reader.specs.declared.Reader.{Reader}
-use Rattle.reader.specs.Record.{Entry, record_at, after_at, records}
+use Rattle.reader.specs.Record.{Entry, take_at, records}
 
 -- What a reader has still to hand out.
 abbrev pub rest : Reader → List Entry
@@ -12,7 +12,7 @@ rest r = records (drop r.at r.script.now)
 -- What a reader at a place hands out when it is asked n times: each time it goes on from where the last left it.
 unfoldable pub handed : List ℕ → ℕ → ℕ → List (Option Entry)
 handed s at zero = []
-handed s at (suc n) = record_at s at ∷ handed s (after_at s at) n
+handed s at (suc n) = (take_at s at).next ∷ handed s (take_at s at).at n
 
 -- What comes before the end.
 unfoldable pub until_end : List (Option Entry) → List Entry

@@ -5,6 +5,7 @@ use Rattle.std.specs.Prelude.{ℕ, ◌+◌, ◌-◌, List, [], ◌∷◌, cond, 
 use Rattle.std.specs.Prelude.{Option, Some, None, Result, Ok, Err}
 use Rattle.reader.specs.declared.Record.{Record}
 use Rattle.reader.specs.declared.BadRecord.{BadRecord}
+use Rattle.reader.specs.declared.Taken.{Taken}
 
 -- A record by its four numbers.
 abbrev pub record_of : ℕ → ℕ → ℕ → ℕ → Record
@@ -50,3 +51,8 @@ after_of None at len = len
 
 unfoldable pub after_at : List ℕ → ℕ → ℕ
 after_at s at = after_of (record_at s at) at (length s)
+
+-- "A reader that keeps the script and its place in it hands out records": what it hands out at a place, and its place
+-- after that.
+abbrev pub take_at : List ℕ → ℕ → Taken
+take_at s at = record { next = record_at s at; at = after_at s at }

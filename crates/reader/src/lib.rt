@@ -1,10 +1,10 @@
 // The bus script: a reader that keeps the script and its place in it hands out records. What is written over the struct
-// is thin, start, take and next; the work is in record_at and after_at.
+// is thin, start, take, take_at and next; the work is in record_at and after_at.
 #![tactic(auto)]
 
 ghost use Rattle.std.specs.Prelude.{◌≡◌, length};
 ghost use Rattle.std.specs.Iterator.{YieldsFirst, item_count};
-ghost use Rattle.reader.specs.Record.{record_at, after_at};
+ghost use Rattle.reader.specs.Record.{record_at, after_at, take_at};
 ghost use Rattle.reader.specs.Handing.{rest};
 
 #[derive(Clone, Copy)]
@@ -24,6 +24,13 @@ pub struct Record {
 // A wrong mark or a short tail.
 #[derive(Clone, Copy)]
 pub struct BadRecord;
+
+// What a reader hands out, and its place after that.
+#[derive(Clone, Copy)]
+pub struct Taken {
+    pub next: Option<Result<Record, BadRecord>>,
+    pub at: usize,
+}
 
 // The work: the record at a place.
 #[tactic(auto, unfolding(crate::specs::Record::record_at))]
@@ -69,6 +76,15 @@ pub fn take(r: &mut Reader<'_>) -> Option<Result<Record, BadRecord>>
     let next = record_at(r.script, r.at);
     r.at = after_at(r.script, r.at);
     next
+}
+
+// What a reader at a place of a script hands out, and its place after that: for a caller that keeps the place alone.
+pub fn take_at(script: &[u8], at: usize) -> Taken
+    ensures { result ≡ take_at script.now at }
+{
+    let mut r = start(script, at);
+    let next = take(&mut r);
+    Taken { next, at: r.at }
 }
 
 // Hands out the records that are left, and then the end.
