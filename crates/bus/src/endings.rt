@@ -56,14 +56,18 @@ impl Bus {
         }
     }
 
-    // The effect on party i is made, and every party settles.
+    // The effect on party i is made, and every party settles. The loop stands twice so that ATN is tested once.
     fn settle(self, atn: bool, i: Place, e: Effect) -> Answer
         ensures { result ≡ settle atn self i.0 e }
     {
         let mut parties = with_party(self.parties, i, e.party);
         let sender = parties[sender_slot(e.standing)];
         let off = is_left(sender.is_source(atn), e.standing);
-        change_all(&mut parties, self.count, Settle(atn));
+        if atn {
+            change_all(&mut parties, self.count, Settle(true));
+        } else {
+            change_all(&mut parties, self.count, Settle(false));
+        }
         let standing = if off { None } else { e.standing };
         let bus = Bus {
             parties,

@@ -1,10 +1,12 @@
 use Rattle.std.proofs.Common.{◌≡◌, refl, cond, None, length, set, ◌∙◌, rules}
+use Rattle.party.specs.Settling.{settled}
+use Rattle.parties.specs.Places.{each}
 use lib.ListN.{length-set}
 use Rattle.parties.proofs.Loops.{length_of_map}
 use Rattle.bus.specs.Settling.{deserted}
 use Rattle.bus.proofs.Seats.{left_seat}
 use Rattle.bus.proofs.Bus.settle.Goals as goal
-use Rattle.bus.proofs.Bus.settle.Goals.{then-off, else-off}
+use Rattle.bus.proofs.Bus.settle.Goals.{then-off, else-off, then-atn, else-atn}
 
 pub returns : goal.returns
 returns c =
@@ -20,4 +22,8 @@ returns c =
       | then-off w ↦ rw (w.standing-is, w.if-off.true) refl
       | else-off w ↦ rw (w.standing-is, w.if-off.false) refl
     ] in
-    c.answered.ensures ∙ rw (c.change_all.ensures, c.with_party-parties.ensures, left, off) refl
+    let all : c.if-atn.parties ≡ each a.self.count (settled a.atn) ps = elim c.if-atn.branch [
+      | then-atn w ↦ rw (w.parties-is, w.change_all.ensures, c.with_party-parties.ensures, w.if-atn.true) refl
+      | else-atn w ↦ rw (w.parties-is, w.change_all-else-atn.ensures, c.with_party-parties.ensures, w.if-atn.false) refl
+    ] in
+    c.answered.ensures ∙ rw (all, left, off) refl
