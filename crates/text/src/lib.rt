@@ -42,9 +42,10 @@ impl Line<'_> {
         requires { HasRoom self.old text.now }
         ensures { Puts self.old text.now self.new }
     {
-        let end = self.at + text.len();
-        self.out[self.at..end].copy_from_slice(text);
-        self.at = end;
+        for (i, byte) in text.iter().enumerate() {
+            self.out[self.at + i] = *byte;
+        }
+        self.at += text.len();
     }
 
     // A number below 100,000 in decimal.
