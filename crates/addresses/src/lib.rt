@@ -64,7 +64,9 @@ impl<'a> Roster<'a> {
     {
         let mut found = false;
         for i in from..self.addresses.len() {
-            found |= n.clashes(self.name_at(i));
+            if n.clashes(self.name_at(i)) {
+                found = true;
+            }
         }
         found
     }

@@ -13,13 +13,13 @@ pub struct Name {
     pub secondary: Option<SecondaryAddress>,
 }
 
-// Do two parties at one primary answer to the same bytes?
+// Do two parties at one primary answer to the same bytes? A plain party hears the primary alone.
 fn meets(one: Option<SecondaryAddress>, other: Option<SecondaryAddress>) -> bool
     ensures { result ≡ meets one other }
 {
-    match (one, other) {
-        (Some(s), Some(t)) => s == t, // equal pairs
-        _ => true, // a plain party hears the primary alone
+    match other {
+        None => true,
+        Some(t) => one.map_or(true, |s| s == t),
     }
 }
 
