@@ -1,5 +1,4 @@
 -- The types that the machine speaks of, and their cases, under one name.
-use Rattle.std.specs.Prelude.{Result, ⊤}
 pub use Rattle.party.specs.declared.Place.{Place}
 pub use Rattle.offer.specs.declared.Kind.{Kind}
 pub use Rattle.offer.specs.declared.Kind.TheVariants.{Command, Data, Status}
@@ -9,6 +8,7 @@ pub use Rattle.party.specs.declared.Party.{Party}
 pub use Rattle.effect.specs.declared.Standing.{Standing}
 pub use Rattle.effect.specs.declared.Refusal.{Refusal}
 pub use Rattle.effect.specs.declared.Refusal.TheVariants as ruling
+pub use Rattle.effect.specs.Verdicts.{Verdict}
 pub use Rattle.effect.specs.declared.Call.{Call}
 pub use Rattle.effect.specs.declared.Call.TheVariants as call_of
 pub use Rattle.effect.specs.declared.Act.{Act}
@@ -19,7 +19,3 @@ pub use Rattle.effect.specs.declared.After.TheVariants as after
 pub use Rattle.effect.specs.declared.Outcome.{Outcome}
 pub use Rattle.effect.specs.declared.Effect.{Effect}
 pub use Rattle.effect.specs.declared.View.{View}
-
--- Whether a call was accepted.
-abbrev pub Verdict : Type 0
-Verdict = Result ⊤ Refusal
